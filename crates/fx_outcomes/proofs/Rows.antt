@@ -3,11 +3,11 @@ use Rattle.std.proofs.Common.{◌≡◌, List, [], ◌∷◌, length, refl, ap, 
 use Rattle.fx_outcomes.specs.Runs.{Next, Goes, Stops}
 use Rattle.fx_outcomes.specs.Many.{then_next, join, ahead, watched, straight}
 
-module _ (O R W T I : Type 0) (move : R → W → Next O (R × W) T) (perform : I → R → W → Next O (R × W) T) (Stands : R → List I → Type 0) (straight_on : I → Bool) where
-  -- the instructions stand where r is, and a straight one goes on to the next
+module _ (O R W T I : Type 0) (move : R → W → Next O (R × W) T) (perform : I → R → W → Next O (R × W) T) (Stands : R → W → List I → Type 0) (straight_on : I → Bool) where
+  -- the instructions stand where r is, in the world w, and a straight one goes on to the next
   pub record Fetching : Type 0 where
-    pub fetch : (r : R) (w : W) (i : I) (is : List I) → Stands r (i ∷ is) → move r w ≡ perform i r w
-    pub next : (r q : R) (w x : W) (o : List O) (i : I) (is : List I) → Stands r (i ∷ is) → straight_on i ≡ true → perform i r w ≡ Goes o (q, x) → Stands q is
+    pub fetch : (r : R) (w : W) (i : I) (is : List I) → Stands r w (i ∷ is) → move r w ≡ perform i r w
+    pub next : (r q : R) (w x : W) (o : List O) (i : I) (is : List I) → Stands r w (i ∷ is) → straight_on i ≡ true → perform i r w ≡ Goes o (q, x) → Stands q x is
 
   -- all but the last go on to the next
   abbrev pub all_straight : List I → Bool
@@ -31,7 +31,7 @@ module _ (O R W T I : Type 0) (move : R → W → Next O (R × W) T) (perform : 
         test true = ap (then_next o) (same o q x refl)
         test false = refl
 
-    pub rows : (is : List I) (r : R) (w : W) → Stands r is → all_straight is ≡ true → ahead (λ r w. watched calm (move r w)) (length is) r w ≡ straight perform calm is r w
+    pub rows : (is : List I) (r : R) (w : W) → Stands r w is → all_straight is ≡ true → ahead (λ r w. watched calm (move r w)) (length is) r w ≡ straight perform calm is r w
     rows [] r w h s = refl
     rows (i ∷ []) r w h s = ap (λ b. join (watched calm b) (λ y. Goes [] y)) (f.fetch r w i [] h)
     rows (i ∷ j ∷ is) r w h e =
