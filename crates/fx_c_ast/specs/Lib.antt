@@ -1,0 +1,4 @@
+pub mod ParsedTrees
+pub mod CheckedTrees
+pub mod Layout
+pub mod StackUse
