@@ -1,5 +1,5 @@
 use Rattle.std.proofs.Common.{◌≡◌, ◌≢◌, ◌<◌, ◌≤◌, ◌+◌, ℕ, refl, arith, Bool, true, false, ap, sym, ◌∙◌, subst, List, [], ◌∷◌, ◌++◌, Option, Some, None, length, take, drop, append_assoc, length-append}
-use Rattle.std.specs.Prelude.{◌&&◌, cond, nat_eq}
+use Rattle.std.specs.Prelude.{◌&&◌, cond, nat_eq, IfSome}
 use Rattle.std.specs.List.{starts_with}
 use Rattle.std.proofs.lemmas.Bool.{false≢true, and_parts}
 use Rattle.std.proofs.lemmas.Bool.Decides.{Decides-eqb}
@@ -62,6 +62,14 @@ decoded_is_spelled b i n h =
     let front : take n b ≡ spelling i = ap (λ m. take m b) c.len ∙ ap (take (length (spelling i))) whole ∙ take-append_seam (spelling i) (drop (length (spelling i)) b) in
     let lens : length b ≡ length (spelling i) + length (drop (length (spelling i)) b) = ap length whole ∙ length-append (spelling i) (drop (length (spelling i)) b) in
     (((c.row, guess_fits b i c.guessed), front), omega (arith, c.len, lens))
+
+-- the clauses of a decoder whose answer is what is decoded
+pub answer_spelled : (b : List ℕ) (r : Option (Inst × ℕ)) → r ≡ decoded b → IfSome r (λ f. Spells (f.0) (take (f.1) b) × (f.1 ≤ length b))
+answer_spelled b None e = tt
+answer_spelled b (Some f) e = decoded_is_spelled b (f.0) (f.1) (sym e)
+
+pub answer_complete : (b : List ℕ) (r : Option (Inst × ℕ)) → r ≡ decoded b → (i : Inst) (rest : List ℕ) → IsRow i → b ≡ spelling i ++ rest → r ≡ Some (i, length (spelling i))
+answer_complete b r e i rest row h = e ∙ ap decoded h ∙ decodes_spelling i rest row
 
 -- ---- what a None says
 
