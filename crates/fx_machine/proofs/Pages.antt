@@ -2,10 +2,14 @@
 use Rattle.std.proofs.Common.{◌≡◌, ◌≢◌, ℕ, ◌+◌, ◌*◌, ◌-◌, ◌/◌, ◌%◌, ◌<◌, ◌≤◌, ◌⊎◌, inl, inr, Bool, true, false, Option, None, Some, List, [], ◌∷◌, length, refl, sym, ap, ◌∙◌, subst, arith, cond}
 use Rattle.std.specs.Prelude.{nat_le, nat_lt, ◌==◌, ◌&&◌, slice_get, not, nat_eq, sum_by, IsTrue}
 use Rattle.std.proofs.lemmas.Bool.Decides.{nat_tests}
+use Rattle.std.proofs.lemmas.Bool.{cond-false}
+use Rattle.std.proofs.lemmas.List.Sums.{sum_by-cons}
 use Rattle.std.proofs.lemmas.Nat.{div-mul-add, mod-mul-add}
-use Rattle.fx_vm_pages.specs.declared.entry.Entry.{Entry}
+use Rattle.fx_vm_pages.specs.Access.{byte_refusal}
+use Rattle.fx_vm_pages.specs.declared.entry.Pkru.{Pkru}
+use Rattle.fx_vm_pages.specs.declared.access.Access.TheVariants.{Write}
 use Rattle.fx_image.specs.Layout.{stack_low, stack_bytes, stack_span, first_stack, stack_count}
-use Rattle.fx_image.specs.Rules.{IsImage, are_spread}
+use Rattle.fx_image.specs.Rules.{IsImage, are_spread, are_few, ranges_end}
 use Rattle.fx_image.specs.declared.forms.Section.{Section}
 use Rattle.fx_image.specs.declared.forms.Image.{Image}
 use Rattle.fx_machine.specs.Layout.{page_entry, first_of, mapped, is_ept, maps_code, code_entry, literal_entry, mailbox_entry, thread_entry, device_entry, section_entry, stack_entry, owner_of, private_key, low_half}
@@ -82,6 +86,10 @@ after_two a b rest p q = rw (p, q) refl
 here : {A : Type 0} (a : Option A) (x : A) (rest : List (Option A)) → a ≡ Some x → first_of (a ∷ rest) ≡ Some x
 here a x rest p = rw p refl
 
+last_of : {A : Type 0} (a : Option A) → first_of (a ∷ []) ≡ a
+last_of None = refl
+last_of (Some x) = refl
+
 first_four : (image : Image) (space page : ℕ) → Fits image → is_ept image ≡ false → 0xf001 ≤ page → page_entry image space page ≡ first_of (device_entry image space page ∷ section_entry (is_ept image) space page image.sections ∷ stack_entry image space page ∷ [])
 unfolding page_entry
 first_four image space page f h from =
@@ -110,4 +118,107 @@ stack_low_page image space k place page f h small inside is =
     let e : stack_entry image space page ≡ low_half image space k page = simp (q1, at, d, m, q2, q3) in
     first_four image space page f h (omega arith)
     ∙ after_two (device_entry image space page) (section_entry (is_ept image) space page image.sections) _ (no_device image space page (omega arith)) (f.sections (is_ept image) space page (inr (omega arith)))
-    ∙ ap (λ x. first_of (x ∷ [])) e ∙ ?
+    ∙ last_of (stack_entry image space page) ∙ e
+
+-- ---- code is never written
+
+no_literals_below : (image : Image) (page : ℕ) → page < 0x600 → literal_entry image page ≡ None
+no_literals_below image page h = let e = le_false 0x600 page h in simp e
+
+no_mailbox_below : (image : Image) (space page : ℕ) → page < 0xe000 → mailbox_entry image space page ≡ None
+no_mailbox_below image space page h = let e = le_false 0xe000 page h in simp e
+
+no_device_below : (image : Image) (space page : ℕ) → page < 0xf100 → device_entry image space page ≡ None
+no_device_below image space page h = let e = le_false 0xf100 page h in simp e
+
+no_stack_below : (image : Image) (space page : ℕ) → page < 0x20000 → stack_entry image space page ≡ None
+no_stack_below image space page h = let e = le_false first_stack (page * 4096) (omega arith) in simp e
+
+-- A code page that the space doesn't map.
+code_absent : (image : Image) (space page : ℕ) → Fits image → page < 0x500 → maps_code image space ((page - 0x400) * 4096) ≡ false → page_entry image space page ≡ None
+unfolding page_entry
+code_absent image space page f lt h =
+    let ne : page ≢ 0xf000 = λ e. omega (arith, e) in
+    let c : code_entry image space page ≡ None = unmapped (nat_le 0x400 page) (nat_lt ((page - 0x400) * 4096) (length image.code)) page h in
+    after_four (code_entry image space page) (literal_entry image page) (mailbox_entry image space page) (thread_entry image space page) _
+    c (no_literals_below image page (omega arith)) (no_mailbox_below image space page (omega arith)) (no_thread image space page ne)
+    ∙ after_two (device_entry image space page) (section_entry (is_ept image) space page image.sections) _ (no_device_below image space page (omega arith)) (f.sections (is_ept image) space page (inl (omega arith)))
+    ∙ last_of (stack_entry image space page) ∙ no_stack_below image space page (omega arith)
+  where
+    unmapped : (a b : Bool) (page : ℕ) {m : Bool} → m ≡ false → cond (a && b && m) (mapped page 2 0) None ≡ None
+    unmapped true true page e = ap (λ t. cond t (mapped page 2 0) None) e
+    unmapped true false page e = refl
+    unmapped false b page e = refl
+
+pub code_unwritable : (image : Image) (space page : ℕ) (pkru : Pkru) (form : Bool) → Fits image → 0x400 ≤ page → (page - 0x400) * 4096 < length image.code → byte_refusal (page_entry image space page) pkru Write form ≢ None
+code_unwritable image space page pkru form f from to = cases (maps_code image space ((page - 0x400) * 4096)) refl
+  where
+    cases : (t : Bool) → maps_code image space ((page - 0x400) * 4096) ≡ t → byte_refusal (page_entry image space page) pkru Write form ≢ None
+    cases true e h =
+        let is = code_page image space page from to e in
+        let x : byte_refusal (mapped page 2 0) pkru Write form ≡ None = subst (λ z. byte_refusal z pkru Write form ≡ None) is h in
+        cc
+    cases false e h =
+        let c = f.code in
+        let is = code_absent image space page f (omega arith) e in
+        let x : byte_refusal None pkru Write form ≡ None = subst (λ z. byte_refusal z pkru Write form ≡ None) is h in
+        cc
+
+-- ---- an image that meets the field rules
+
+both : (a b : Bool) → a && b ≡ true → (a ≡ true) × (b ≡ true)
+both true b e = (refl, e)
+both false b e = cc
+
+same_if : (a b : ℕ) → nat_eq a b ≡ true → a ≡ b
+same_if a b e = grind (arith, nat_tests)
+
+below_if : (a b : ℕ) → nat_lt a b ≡ true → a < b
+below_if a b e = grind (arith, nat_tests)
+
+outside : (low high page : ℕ) → (page < low) ⊎ (high ≤ page) → nat_le low page && nat_lt page high ≡ false
+outside low high page (inl h) = let e = le_false low page h in rw e refl
+outside low high page (inr h) = cases (nat_le low page) refl
+  where
+    cases : (t : Bool) → nat_le low page ≡ t → t && nat_lt page high ≡ false
+    cases true e = lt_false page high h
+    cases false e = refl
+
+no_section : (ept : Bool) (space page at : ℕ) (ss : List Section) → are_spread at ss ≡ true → (page < at) ⊎ (at + 2 * sum_by (λ (s : Section). s.pages) ss ≤ page) → section_entry ept space page ss ≡ None
+no_section ept space page at [] h out = refl
+no_section ept space page at (s ∷ ss) h out =
+    let (head, tail) = both ((s.page == at) && nat_lt 0 s.pages) (are_spread (s.page + s.pages + 1) ss) h in
+    let (starts, some) = both (s.page == at) (nat_lt 0 s.pages) head in
+    let e : s.page ≡ at = same_if s.page at starts in
+    let lt : 0 < s.pages = below_if 0 s.pages some in
+    let sum = sum_by-cons (λ (s : Section). s.pages) s ss in
+    let here : (page < s.page) ⊎ (s.page + s.pages ≤ page) = elim out [ inl h ↦ inl (omega arith) | inr h ↦ inr (omega arith) ] in
+    let later : (page < s.page + s.pages + 1) ⊎ (s.page + s.pages + 1 + 2 * sum_by (λ (s : Section). s.pages) ss ≤ page) = elim out [ inl h ↦ inl (omega arith) | inr h ↦ inr (omega arith) ] in
+    cond-false _ _ _ (outside s.page (s.page + s.pages) page here) ∙ no_section ept space page (s.page + s.pages + 1) ss tail later
+
+-- An image that meets the field rules fits.
+pub fits : (image : Image) → IsImage image → Fits image
+fits image h = record {
+  code =
+      let a = both (length image.code % 4096 == 0 && nat_le (length image.code) 1048576) (nat_le (ranges_end image.compartments) (length image.code)) h.code in
+      at_most (length image.code) 1048576 (both (length image.code % 4096 == 0) (nat_le (length image.code) 1048576) a.0).1;
+  literals = at_most (length image.literals) 8388608 h.literals;
+  sections = λ ept space page out. no_section ept space page 0x10000 image.sections (spread image h) (elim out [ inl lt ↦ inl lt | inr le ↦ inr (let few = few_pages image h in omega arith) ]);
+}
+  where
+    at_most : (a b : ℕ) → nat_le a b ≡ true → a ≤ b
+    at_most a b e = grind (arith, nat_tests)
+
+    front : (a b : Bool) → a && b ≡ true → a ≡ true
+    front a b e = (both a b e).0
+
+    parts : (image : Image) → IsImage image → are_spread 0x10000 image.sections && are_few image.mechanism image.sections ≡ true
+    parts image h = front _ _ (front _ _ (front _ _ (front _ _ (front _ _ (front _ _ h.sections)))))
+
+    spread : (image : Image) → IsImage image → are_spread 0x10000 image.sections ≡ true
+    spread image h = front _ _ (parts image h)
+
+    few_pages : (image : Image) → IsImage image → sum_by (λ (s : Section). s.pages) image.sections ≤ 16384
+    few_pages image h =
+        let few = (both (are_spread 0x10000 image.sections) (are_few image.mechanism image.sections) (parts image h)).1 in
+        at_most (sum_by (λ (s : Section). s.pages) image.sections) 16384 (front _ _ few)

@@ -141,12 +141,12 @@ stack_entry image space page =
 unfoldable pub page_entry : Image → ℕ → ℕ → Option Entry
 page_entry image space page =
     first_of (
-      code_entry image space page
-      ∷ literal_entry image page
-      ∷ mailbox_entry image space page
-      ∷ thread_entry image space page
-      ∷ device_entry image space page
-      ∷ section_entry (is_ept image) space page image.sections
-      ∷ stack_entry image space page
-      ∷ []
+    code_entry image space page
+    ∷ literal_entry image page
+    ∷ mailbox_entry image space page
+    ∷ thread_entry image space page
+    ∷ device_entry image space page
+    ∷ section_entry (is_ept image) space page image.sections
+    ∷ stack_entry image space page
+    ∷ []
     )

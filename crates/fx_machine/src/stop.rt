@@ -26,7 +26,10 @@ pub enum Stop {
     /// A division by zero, or a quotient that doesn't fit.
     Divide,
     /// A stack is full: RDI and RSI.
-    StackFull { thread: u64, stack: u64 },
+    StackFull {
+        thread: u64,
+        stack: u64,
+    },
     /// A switch to a thread that isn't live.
     BadThread,
     /// A thread too many was made.
