@@ -1,6 +1,6 @@
 //! The decoder.
 
-ghost use Rattle.std.specs.Prelude.{◌≡◌, ◌≢◌, ◌≤◌, ◌++◌, ℕ, List, length, take, IfSome, IfNone};
+ghost use Rattle.std.specs.Prelude.{◌≡◌, ◌≤◌, ◌++◌, ℕ, List, length, take, IfSome};
 ghost use Rattle.fx_x64_forms.specs.declared.inst.Inst.{Inst};
 ghost use Rattle.fx_x64_code.specs.Spelling.{spelling, has_row, IsRow, Spells};
 ghost use Rattle.fx_x64_code.specs.Decoded.{decoded};
@@ -37,6 +37,8 @@ pub fn is_row(i: &Inst) -> bool
 /// instruction's spelling begins them. Takes no memory.
 pub fn decode(b: &[u8]) -> Option<(Inst, usize)>
     ensures value { result ≡ decoded b.now }
+    ensures spelled { IfSome result (λ f. Spells f.0 (take f.1 b.now) × (f.1 ≤ length b.now)) }
+    ensures complete { (i : Inst) (rest : List ℕ) → IsRow i → b.now ≡ spelling i ++ rest → result ≡ Some (i, length (spelling i)) }
 {
     let i = match read(b) {
         None => return None,

@@ -11,4 +11,5 @@ mod codes;
 pub mod decode;
 pub mod encode;
 mod guess;
+pub mod laws;
 mod spell;

@@ -1,0 +1,9 @@
+pub mod Faults
+pub mod Told
+pub mod Files
+pub mod Source
+pub mod Sink
+pub mod FaultPlan
+pub mod MemFiles
+pub mod MemSource
+pub mod MemSink

@@ -1,0 +1,5 @@
+pub mod Checks
+pub mod Pages
+pub mod Regions
+pub mod Fetching
+pub mod Standing
