@@ -10,8 +10,8 @@ code_start = 0x40_0000
 
 -- Whether each compartment has stacks of its own, with a high half that all may use: under full and
 -- ept. Elsewhere a thread has one stack.
-abbrev pub has_halves : Image → Bool
-has_halves i = i.mechanism == 2 || i.mechanism == 3
+abbrev pub has_halves : ℕ → Bool
+has_halves mechanism = mechanism == 2 || mechanism == 3
 
 -- the bytes of a stack, or of each of its halves
 abbrev pub stack_bytes : Image → ℕ
@@ -26,7 +26,7 @@ abbrev pub first_stack : ℕ
 first_stack = 0x2000_1000
 
 abbrev pub stack_count : Image → ℕ
-stack_count i = if has_halves i then i.threads * length i.compartments else i.threads
+stack_count i = if has_halves i.mechanism then i.threads * length i.compartments else i.threads
 
 -- where the low half of stack k starts; the high half starts `stack_bytes` above
 abbrev pub stack_low : Image → ℕ → ℕ
@@ -34,12 +34,12 @@ stack_low i k = first_stack + k * stack_span i
 
 -- the bytes from a stack's low half on that are mapped
 abbrev pub stack_mapped : Image → ℕ
-stack_mapped i = if has_halves i then 2 * stack_bytes i else stack_bytes i
+stack_mapped i = if has_halves i.mechanism then 2 * stack_bytes i else stack_bytes i
 
 -- the stack of this number, which is `thread * n + compartment` where compartments have stacks
 abbrev pub numbered_stack : Image → ℕ → ℕ → Found
 numbered_stack i k offset =
-    if has_halves i then Stack (k / length i.compartments) (k % length i.compartments) offset
+    if has_halves i.mechanism then Stack (k / length i.compartments) (k % length i.compartments) offset
     else Stack k 0 offset
 
 -- whether the address is in a half of a stack that is mapped

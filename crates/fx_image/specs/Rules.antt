@@ -1,4 +1,4 @@
-use Rattle.std.specs.Prelude.{ℕ, ◌+◌, ◌-◌, ◌*◌, ◌%◌, ◌^◌, Bool, true, false, not, ◌==◌, nat_lt, nat_le, nat_eq, ◌&&◌, ◌||◌, if◌then◌else◌, List, [], ◌∷◌, length, drop, take, Option, Some, None, IsTrue, slice_index, slice_get, sum_by, count_by, bit_and}
+use Rattle.std.specs.Prelude.{ℕ, ◌+◌, ◌-◌, ◌*◌, ◌%◌, ◌^◌, Bool, true, false, not, ◌==◌, nat_lt, nat_le, nat_eq, ◌&&◌, ◌||◌, if◌then◌else◌, List, [], ◌∷◌, length, drop, Option, Some, None, IsTrue, slice_index, slice_get, sum_by, count_by, bit_and}
 use Rattle.std.specs.List.{list_any, list_all, starts_with}
 use Rattle.std.specs.Str.{bytes_eq}
 use Rattle.std.specs.Char.{is_ascii_alphabetic, is_ascii_alphanumeric}
@@ -114,15 +114,15 @@ have_rights mechanism sections scheduler comps =
     all_numbered (λ c comp. comp.pkru == (if is_keyed mechanism then pkru_of sections scheduler c else 0)) 0 comps
 
 -- the sections, and with them the compartments' PKRU values
-abbrev pub are_sections : Image → Bool
-are_sections i =
-    are_spread 0x10000 i.sections && are_few i.mechanism i.sections
-    && nat_le (leading (length i.compartments)) (length i.sections)
-    && list_all (is_pair i.version (length i.compartments)) i.sections
-    && all_numbered (leads (length i.compartments)) 0 i.sections
-    && all_numbered (has_key i.mechanism) 0 i.sections
-    && is_distinct_by same_pair i.sections
-    && have_rights i.mechanism i.sections i.scheduler i.compartments
+abbrev pub are_sections : ℕ → ℕ → ℕ → List Comp → List Section → Bool
+are_sections version mechanism scheduler comps sections =
+    are_spread 0x10000 sections && are_few mechanism sections
+    && nat_le (leading (length comps)) (length sections)
+    && list_all (is_pair version (length comps)) sections
+    && all_numbered (leads (length comps)) 0 sections
+    && all_numbered (has_key mechanism) 0 sections
+    && is_distinct_by same_pair sections
+    && have_rights mechanism sections scheduler comps
 
 -- whole pages, 1 MiB at most, that hold the compartments' ranges
 abbrev pub is_code : List Comp → List ℕ → Bool
@@ -183,26 +183,30 @@ are_entries comps entries =
 abbrev pub entry_count : List EntryRec → ℕ → ℕ
 entry_count entries c = count_by (λ e. e.compartment == c) entries
 
--- 0F 01 EF, the bytes of WRPKRU, at this place
+-- the bytes of WRPKRU
+abbrev pub key_sequence : List ℕ
+key_sequence = 0x0f ∷ 0x01 ∷ 0xef ∷ []
+
+-- whether WRPKRU stands at this place
 abbrev pub is_key_sequence : List ℕ → ℕ → Bool
-is_key_sequence code at = bytes_eq (take 3 (drop at code)) (0x0f ∷ 0x01 ∷ 0xef ∷ [])
+is_key_sequence code at = starts_with nat_eq (drop at code) key_sequence
 
 -- a place in the runtime's range
 abbrev pub is_in_runtime : List Comp → List ℕ → ℕ → Bool
 is_in_runtime comps code at = nat_le (ranges_end comps) at && nat_lt at (length code)
 
-abbrev pub is_stub : Image → Stub → Bool
-is_stub i s =
-    not (s.from == s.to) && nat_lt s.from (length i.compartments) && nat_lt s.to (length i.compartments)
-    && nat_lt s.entry (entry_count i.entries s.to)
-    && is_in_runtime i.compartments i.code s.offset && nat_lt s.offset s.first
-    && nat_lt s.first s.second && is_in_runtime i.compartments i.code s.second
-    && is_key_sequence i.code s.first && is_key_sequence i.code s.second
+abbrev pub is_stub : List Comp → List ℕ → List EntryRec → Stub → Bool
+is_stub comps code entries s =
+    not (s.from == s.to) && nat_lt s.from (length comps) && nat_lt s.to (length comps)
+    && nat_lt s.entry (entry_count entries s.to)
+    && is_in_runtime comps code s.offset && nat_lt s.offset s.first
+    && nat_lt s.first s.second && is_in_runtime comps code s.second
+    && is_key_sequence code s.first && is_key_sequence code s.second
 
-abbrev pub are_stubs : Image → Bool
-are_stubs i =
-    nat_lt (length i.stubs) (2 ^ 16)
-    && (if is_keyed i.mechanism then list_all (is_stub i) i.stubs else length i.stubs == 0)
+abbrev pub are_stubs : ℕ → List Comp → List ℕ → List EntryRec → List Stub → Bool
+are_stubs mechanism comps code entries stubs =
+    nat_lt (length stubs) (2 ^ 16)
+    && (if is_keyed mechanism then list_all (is_stub comps code entries) stubs else length stubs == 0)
 
 abbrev pub are_owners : ℕ → List ℕ → Bool
 are_owners n owners = list_all (λ c. nat_lt c n) owners
@@ -248,12 +252,12 @@ pub record IsImage (i : Image) : Type 0 where
   pub scheduler : IsTrue (nat_lt i.scheduler (length i.compartments))
   pub home : IsTrue (nat_lt i.home (length i.compartments))
   pub compartments : IsTrue (are_compartments i.compartments)
-  pub sections : IsTrue (are_sections i)
+  pub sections : IsTrue (are_sections i.version i.mechanism i.scheduler i.compartments i.sections)
   pub code : IsTrue (is_code i.compartments i.code)
   pub literals : IsTrue (are_literals i.literals)
   pub objects : IsTrue (are_objects i.sections i.objects)
   pub entries : IsTrue (are_entries i.compartments i.entries)
-  pub stubs : IsTrue (are_stubs i)
+  pub stubs : IsTrue (are_stubs i.mechanism i.compartments i.code i.entries i.stubs)
   pub abort : IsTrue (is_in_runtime i.compartments i.code i.abort)
   pub owners : IsTrue (are_owners (length i.compartments) i.owners)
   pub starts : IsTrue (are_starts i)

@@ -1,4 +1,4 @@
-use Rattle.std.specs.Prelude.{ℕ, ◌==◌, if◌then◌else◌, List, [], ◌∷◌, ◌++◌, length}
+use Rattle.std.specs.Prelude.{ℕ, ◌^◌, ◌<◌, ◌==◌, if◌then◌else◌, List, [], ◌∷◌, ◌++◌, length}
 use Rattle.std.specs.List.{flat_map}
 use Rattle.std.specs.Int.{to_le_bytes, w16, w32, w64}
 use Rattle.fx_image.specs.declared.forms.Comp.{Comp}
@@ -59,6 +59,11 @@ abbrev pub obj_spelling : Obj → List ℕ
 obj_spelling o =
     name_spelling o.name ++ (u16_spelling o.section ++ (u64_spelling o.address
     ++ (u32_spelling o.size ++ block_spelling o.initial)))
+
+-- whether the lengths of an object's name and initial bytes have room in their fields
+pub record HasRoom (o : Obj) : Type 0 where
+  pub name : length o.name < 256
+  pub initial : length o.initial < 2 ^ 32
 
 abbrev pub entry_spelling : EntryRec → List ℕ
 entry_spelling e =

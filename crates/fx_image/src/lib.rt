@@ -8,11 +8,15 @@
 
 pub mod find;
 pub mod forms;
+mod keys;
 pub mod list;
+mod writing;
 
-pub use find::Found;
+pub use find::{Found, object_of};
 pub use forms::{
     Comp, Comps, EntryRec, EntryRecs, Image, Obj, Objs, Offsets, Section, Sections, Start, Starts,
     Stub, StubList,
 };
+pub use keys::{has_member, pkru_of};
 pub use list::{Bytes, List, Name};
+pub use writing::print;
