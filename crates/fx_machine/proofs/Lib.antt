@@ -3,3 +3,4 @@ pub mod Pages
 pub mod Regions
 pub mod Fetching
 pub mod Standing
+pub mod Executing
