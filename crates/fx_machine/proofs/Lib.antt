@@ -4,3 +4,4 @@ pub mod Regions
 pub mod Fetching
 pub mod Standing
 pub mod Executing
+pub mod Placing
