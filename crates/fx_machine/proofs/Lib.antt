@@ -3,3 +3,5 @@ pub mod Pages
 pub mod Regions
 pub mod Fetching
 pub mod Standing
+pub mod Executing
+pub mod Placing
