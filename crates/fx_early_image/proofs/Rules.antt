@@ -32,12 +32,15 @@ is_laid_out n code some most whole size quiet =
       sequences = ap has_none quiet;
     }
 
-pub is_image : (constants : List ℕ) → length constants ≤ 1000 → AreBytes constants → IsImage (early_image constants)
-unfolding early_image
-is_image constants few small =
+pub is_laid : (constants : List ℕ) → length constants ≤ 1000 → AreBytes constants → IsImage (laid_out (length (range_bytes constants)) (code_bytes constants))
+is_laid constants few small =
     is_laid_out (length (range_bytes constants)) (code_bytes constants)
     (range_some constants) (range_length constants few) (range_whole constants) (length-code constants)
     (none_unlisted 0 (code_bytes constants) (calm-code constants few small))
+
+pub is_image : (constants : List ℕ) → length constants ≤ 1000 → AreBytes constants → IsImage (early_image constants)
+unfolding early_image
+is_image constants few small = is_laid constants few small
 
 pub are_bytes : (cs : List ℕ) → ((k : ℕ) → Fits w8 (get_or cs k 0)) → AreBytes cs
 are_bytes [] each = tt

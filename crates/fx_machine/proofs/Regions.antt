@@ -55,7 +55,7 @@ use_register image space device register pkru access f h d r kind free =
 
 -- The key of the low half of stack k.
 abbrev pub low_key : Image → ℕ → ℕ
-low_key image k = if has_halves image then private_key image (stack_compartment image k) else common_key image
+low_key image k = if has_halves image.mechanism then private_key image (stack_compartment image k) else common_key image
 
 by_half : (page a b : ℕ) (halves closed : Bool) → closed ≡ false → (if not halves then mapped page 1 a else if closed then None else mapped page 1 b) ≡ mapped page 1 (if halves then b else a)
 by_half page a b true closed e = rw e refl
@@ -63,7 +63,7 @@ by_half page a b false closed e = refl
 
 low_entry : (image : Image) (space k page : ℕ) → is_ept image ≡ false → low_half image space k page ≡ mapped page 1 (low_key image k)
 low_entry image space k page h =
-    by_half page (common_key image) (private_key image (stack_compartment image k)) (has_halves image) (is_ept image && not (nat_eq space (stack_compartment image k))) (ap (λ t. t && not (nat_eq space (stack_compartment image k))) h)
+    by_half page (common_key image) (private_key image (stack_compartment image k)) (has_halves image.mechanism) (is_ept image && not (nat_eq space (stack_compartment image k))) (ap (λ t. t && not (nat_eq space (stack_compartment image k))) h)
 
 -- The stacks begin at whole pages.
 stack_pages : (image : Image) (k : ℕ) → stack_low image k ≡ 4096 * (0x20001 + k * (2 * image.stack_pages + 2))

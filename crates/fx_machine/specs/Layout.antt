@@ -115,12 +115,12 @@ stack_compartment image k = k % length image.compartments
 
 abbrev pub low_half : Image → ℕ → ℕ → ℕ → Option Entry
 low_half image space k page =
-    if not (has_halves image) then mapped page 1 (common_key image)
+    if not (has_halves image.mechanism) then mapped page 1 (common_key image)
     else if is_ept image && not (space == stack_compartment image k) then None
     else mapped page 1 (private_key image (stack_compartment image k))
 
 abbrev pub high_half : Image → ℕ → Option Entry
-high_half image page = if has_halves image then mapped page 1 (common_key image) else None
+high_half image page = if has_halves image.mechanism then mapped page 1 (common_key image) else None
 
 -- The page that stands so many bytes behind the beginning of the low half of stack k.
 abbrev pub stack_page : Image → ℕ → ℕ → ℕ → ℕ → Option Entry
