@@ -12,7 +12,7 @@ use Rattle.fx_early_image.proofs.Lengths.{range_length, range_some, range_whole}
 abbrev pub calm : List ℕ → Bool
 calm [] = true
 calm (x ∷ []) = true
-calm (x ∷ y ∷ rest) = not ((y == 1) && (x == 15)) && calm (y ∷ rest)
+calm (x ∷ y ∷ rest) = not ((1 == y) && (15 == x)) && calm (y ∷ rest)
 
 -- numbers of 8 bits
 abbrev pub AreBytes : List ℕ → Type 0
@@ -22,7 +22,7 @@ AreBytes (c ∷ cs) = (c < 256) × AreBytes cs
 -- what may follow any byte
 abbrev pub follows : List ℕ → Bool
 follows [] = true
-follows (x ∷ rest) = not (x == 1)
+follows (x ∷ rest) = not (1 == x)
 
 split_and : (p q : Bool) → (p && q) ≡ true → (p ≡ true) × (q ≡ true)
 split_and true q e = (refl, e)
@@ -38,7 +38,7 @@ first_apart false q e = refl
 pub calm-append : (xs ys : List ℕ) → calm xs ≡ true → calm ys ≡ true → follows ys ≡ true → calm (xs ++ ys) ≡ true
 calm-append [] ys a b f = b
 calm-append (x ∷ []) [] a b f = refl
-calm-append (x ∷ []) (y ∷ ys) a b f = both_and _ _ (first_apart (y == 1) (x == 15) f) b
+calm-append (x ∷ []) (y ∷ ys) a b f = both_and _ _ (first_apart (1 == y) (15 == x) f) b
 calm-append (x ∷ z ∷ xs) ys a b f = let s = split_and _ _ a in both_and _ _ s.0 (calm-append (z ∷ xs) ys s.1 b f)
 
 pub calm-replicate : (n : ℕ) → (calm (replicate n 0xf4) ≡ true) × (follows (replicate n 0xf4) ≡ true)
@@ -107,8 +107,8 @@ apart true false r e = refl
 apart false q r e = refl
 
 not_sequence : (b : ℕ) (bs : List ℕ) → calm (b ∷ bs) ≡ true → is_key_sequence (b ∷ bs) 0 ≡ false
-not_sequence b [] quiet = and_false (b == 15)
-not_sequence b (c ∷ bs) quiet = apart (b == 15) (c == 1) _ (split_and _ _ quiet).0
+not_sequence b [] quiet = and_false (15 == b)
+not_sequence b (c ∷ bs) quiet = apart (15 == b) (1 == c) _ (split_and _ _ quiet).0
 
 calm-tail : (b : ℕ) (bs : List ℕ) → calm (b ∷ bs) ≡ true → calm bs ≡ true
 calm-tail b [] quiet = refl

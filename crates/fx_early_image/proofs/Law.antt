@@ -1,7 +1,6 @@
 -- The image keeps to its program.
 use Rattle.std.proofs.Common.{◌≡◌, ℕ, zero, suc, ℤ, pos, ◌+◌, ◌-◌, ◌*◌, ◌/◌, ◌%◌, ◌^◌, ◌<◌, ◌≤◌, ◌-ℤ◌, ◌⊎◌, inl, inr, Bool, true, false, List, [], ◌∷◌, ◌++◌, length, get_or, Option, None, Some, refl, ap, sym, ◌∙◌, subst, arith, append_assoc, length-append}
 use Rattle.std.proofs.lemmas.List.{append-nil}
-use Rattle.std.specs.Prelude.{All}
 use Rattle.fx_outcomes.specs.Runs.{Next, Goes, Stops}
 use Rattle.fx_outcomes.specs.Many.{Many, then_next, join, ahead, watched}
 use Rattle.fx_outcomes.proofs.Several as several
@@ -30,7 +29,7 @@ use Rattle.fx_early_image.specs.Source.{Object, State, Starting, Writing, step, 
 use Rattle.fx_early_image.specs.Faithful.{names, EarlyFaithful, ImagesAreFaithful}
 use Rattle.fx_early_image.proofs.Lengths.{range_length, range_some, range_whole}
 use Rattle.fx_early_image.proofs.Calm.{AreBytes, pages}
-use Rattle.fx_early_image.proofs.Rules.{is_laid}
+use Rattle.fx_early_image.proofs.Rules.{is_laid, from_all}
 use Rattle.fx_early_image.proofs.Places as places
 use Rattle.fx_early_image.proofs.Turns as turns
 
@@ -105,6 +104,12 @@ module _ (answers : List ℕ) (constants : List ℕ) (few : length constants ≤
   abbrev Starts : ℕ → State → Regs → World → Type 0
   Starts c s r w = ((e : End Object) × (step s ≡ Stops [] e) × IsUndefined e) ⊎ ((k : ℕ) × (p : ℕ) × (suc k ≤ 256 * (extra s + 1)) × Leads p (suc k) c (step s) r w)
 
+  free : access_check (page_entry image 0) (record { 0 = 0 }) Write turns.main_rsp 8 ≡ None
+  free = use_stack image 0 0 turns.main_rsp 8 (record { 0 = 0 }) Write fitting refl (omega arith) (omega arith) (omega arith) (omega arith) (λ e. omega (arith, e)) (λ e. cc) refl
+
+  stored_kept : (w : World) → HoldsCode image w.memory → HoldsCode image (stored w.memory W64 turns.main_rsp behind_call)
+  stored_kept w holds = stored_keeps image 0 (record { 0 = 0 }) w.memory W64 turns.main_rsp behind_call fitting holds free
+
   -- the start, the jump to main, and the console's address
   begins : (w : World) → HoldsCode image w.memory → Starts 0 (Starting constants) (turns.regs (code_start + n) 0 0 first_rsp) w
   begins w holds =
@@ -116,16 +121,10 @@ module _ (answers : List ℕ) (constants : List ℕ) (few : length constants ≤
       let kept : HoldsCode image x.memory = stored_kept w holds in
       let low : behind_call < 2 ^ 32 = let m = range_length constants few in omega (arith, m) in
       let go : row 3 r w ≡ Goes [] (q3, x) =
-          one 2 r w [] q1 x (turns.call_turn n code fitting whole w holds (places.call_stands constants))
-          ∙ ap (then_next []) (one 1 q1 x [] q2 x (turns.jump_turn n code fitting whole x kept (places.jump_stands constants))
-          ∙ ap (then_next []) (one 0 q2 x [] q3 x (turns.console_turn n code fitting whole x kept (places.console_stands constants)))) in
+      one 2 r w [] q1 x (turns.call_turn n code fitting whole w holds (places.call_stands constants))
+      ∙ ap (then_next []) (one 1 q1 x [] q2 x (turns.jump_turn n code fitting whole x kept (places.jump_stands constants))
+      ∙ ap (then_next []) (one 0 q2 x [] q3 x (turns.console_turn n code fitting whole x kept (places.console_stands constants)))) in
       inr (2, 0, omega arith, leads 3 (Writing constants) r w [] q3 x go (refl, kept, word_kept w.memory behind_call low, ([], 0, refl, refl)))
-    where
-      stored_kept : (w : World) → HoldsCode image w.memory → HoldsCode image (stored w.memory W64 turns.main_rsp behind_call)
-      stored_kept w holds = stored_keeps image 0 (record { 0 = 0 }) w.memory W64 turns.main_rsp behind_call fitting holds free
-
-      free : access_check (page_entry image 0) (record { 0 = 0 }) Write turns.main_rsp 8 ≡ None
-      free = use_stack image 0 0 turns.main_rsp 8 (record { 0 = 0 }) Write fitting refl (omega arith) (omega arith) (omega arith) (omega arith) (λ e. omega (arith, e)) (λ e. cc) refl
 
   -- a constant and its store
   writes : (w : World) (done rest : List ℕ) (c rcx : ℕ) → HoldsCode image w.memory → word_at w.memory W64 turns.main_rsp ≡ behind_call → constants ≡ done ++ c ∷ rest
@@ -141,12 +140,17 @@ module _ (answers : List ℕ) (constants : List ℕ) (few : length constants ≤
       let near : offset < 2 ^ 20 = omega (arith, total, sum, few) in
       let near7 : offset + 7 < 2 ^ 20 = omega (arith, total, sum, few) in
       let go : row 2 r w ≡ Goes (console_store c ∷ []) (q2, w) =
-          one 1 r w [] q1 w (turns.constant_turn n code fitting whole w c offset rcx byte near holds (places.constant_stands constants done rest c offset parts refl))
-          ∙ ap (then_next []) (one 0 q1 w (console_store c ∷ []) q2 w (turns.store_turn n code fitting whole w c (offset + 7) byte near7 holds (places.store_stands constants done rest c (offset + 7) parts refl))) in
+      one 1 r w [] q1 w (turns.constant_turn n code fitting whole w c offset rcx byte near holds (places.constant_stands constants done rest c offset parts refl))
+      ∙ ap (then_next []) (one 0 q1 w (console_store c ∷ []) q2 w (turns.store_turn n code fitting whole w c (offset + 7) byte near7 holds (places.store_stands constants done rest c (offset + 7) parts refl))) in
       let longer : length (done ++ c ∷ []) ≡ length done + 1 = length-append done (c ∷ []) in
       let place : offset + 7 + 7 ≡ 23 + 14 * length (done ++ c ∷ []) = omega (arith, longer) in
-      inr (1, 0, omega arith, leads 2 (Writing rest) r w (console_store c ∷ []) q2 w go
-          (refl, holds, word, (done ++ c ∷ [], c, parts ∙ sym (append_assoc done (c ∷ []) rest), ap (λ a. turns.regs (code_start + a) console c turns.main_rsp) place)))
+      inr (
+        1,
+        0,
+        omega arith,
+        leads 2 (Writing rest) r w (console_store c ∷ []) q2 w go
+            (refl, holds, word, (done ++ c ∷ [], c, parts ∙ sym (append_assoc done (c ∷ []) rest), ap (λ a. turns.regs (code_start + a) console c turns.main_rsp) place)),
+      )
 
   -- the return and the exit
   finishes : (w : World) (done : List ℕ) (rcx : ℕ) → HoldsCode image w.memory → word_at w.memory W64 turns.main_rsp ≡ behind_call → constants ≡ done ++ []
@@ -165,10 +169,10 @@ module _ (answers : List ℕ) (constants : List ℕ) (few : length constants ≤
       let p12 : n + 12 ≡ n + 5 + 7 = omega arith in
       let p19 : n + 19 ≡ n + 5 + 7 + 7 = omega arith in
       let go : row 4 r w ≡ Stops [] (Some (stops.Exit (pos 0))) =
-          one 3 r w [] q1 w (turns.return_turn n code fitting whole w offset rcx holds (places.return_stands constants offset place) word)
-          ∙ ap (then_next []) (one 2 q1 w [] q2 w (turns.rax_turn n code fitting whole w (n + 5) console rcx near5 holds (places.rax_stands constants (n + 5) refl))
-          ∙ ap (then_next []) (one 1 q2 w [] q3 w (turns.rdi_turn n code fitting whole w (n + 5 + 7) rcx near12 holds (places.rdi_stands constants (n + 5 + 7) p12))
-          ∙ ap (then_next []) (last q3 w (stops.Exit (pos 0)) (turns.hlt_turn n code fitting whole w (n + 5 + 7 + 7) rcx holds (places.hlt_stands constants (n + 5 + 7 + 7) p19))))) in
+      one 3 r w [] q1 w (turns.return_turn n code fitting whole w offset rcx holds (places.return_stands constants offset place) word)
+      ∙ ap (then_next []) (one 2 q1 w [] q2 w (turns.rax_turn n code fitting whole w (n + 5) console rcx near5 holds (places.rax_stands constants (n + 5) refl))
+      ∙ ap (then_next []) (one 1 q2 w [] q3 w (turns.rdi_turn n code fitting whole w (n + 5 + 7) rcx near12 holds (places.rdi_stands constants (n + 5 + 7) p12))
+      ∙ ap (then_next []) (last q3 w (stops.Exit (pos 0)) (turns.hlt_turn n code fitting whole w (n + 5 + 7 + 7) rcx holds (places.hlt_stands constants (n + 5 + 7 + 7) p19))))) in
       inr (3, 0, omega arith, ends 4 r w [] (Exit (pos 0)) (stops.Exit (pos 0)) refl go)
 
   starts : (c : ℕ) (s : State) (r : Regs) (w : World) → At c s r w → Starts c s r w
@@ -191,10 +195,6 @@ laid_keeps constants few small answers fit =
     (InLoop answers constants few small) (Uncalled answers constants few small) (At answers constants few small)
     (record { idle = λ e r w h u. absurd h }) (record { starts = λ c s r w a alone. starts answers constants few small c s r w a }) 0 (Starting constants) (boot i answers)
     (omega arith, (λ e lt ne. tt), (λ e lt ne. absurd (omega arith)), inl (refl, refl, refl, boot_code i))
-
-from_all : (cs : List ℕ) → All (λ c. c < 256) cs → AreBytes cs
-from_all [] each = tt
-from_all (c ∷ cs) each = (each 0 0 (omega arith), from_all cs (λ k d lt. each (suc k) d (omega (arith, lt))))
 
 pub images_are_faithful : ImagesAreFaithful
 unfolding early_image

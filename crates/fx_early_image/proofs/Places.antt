@@ -30,9 +30,9 @@ stands_within : (xs ys zs : List ℕ) (a b c : ℕ) → a + b ≡ c → StandsAt
 stands_within xs ys zs a b c e outer inner = record {
   room = let o = outer.room in let i = inner.room in omega (arith, o, i, e);
   same = λ k lt.
-    let i = inner.room in
-    let f : c + k ≡ a + (b + k) = omega (arith, e) in
-    ap (λ n. get_or xs n 0) f ∙ outer.same (b + k) (omega (arith, i, lt)) ∙ inner.same k lt;
+      let i = inner.room in
+      let f : c + k ≡ a + (b + k) = omega (arith, e) in
+      ap (λ n. get_or xs n 0) f ∙ outer.same (b + k) (omega (arith, i, lt)) ∙ inner.same k lt;
 }
 
 stands_filled : (unit : ℕ) (bytes : List ℕ) → StandsAt (filled unit bytes) 0 bytes
@@ -98,8 +98,8 @@ module _ (constants : List ℕ) where
       let f : 14 * length before + 0 ≡ 14 * length before = omega arith in
       subst (λ xs. StandsAt xs (14 * length before) (putc_bytes c)) (sym whole)
       (stands_within _ (flat_map putc_bytes (c ∷ rest)) _ (14 * length before) 0 (14 * length before) f
-          (stands_back (flat_map putc_bytes before) (flat_map putc_bytes (c ∷ rest)) (14 * length before) (length-putcs before))
-          (stands_front (putc_bytes c) (flat_map putc_bytes rest)))
+      (stands_back (flat_map putc_bytes before) (flat_map putc_bytes (c ∷ rest)) (14 * length before) (length-putcs before))
+      (stands_front (putc_bytes c) (flat_map putc_bytes rest)))
 
   at_putc : (before rest : List ℕ) (c b place : ℕ) (bytes : List ℕ) → constants ≡ before ++ c ∷ rest → 23 + 14 * length before + b ≡ place → StandsAt (putc_bytes c) b bytes → StandsAt (code_bytes constants) place bytes
   at_putc before rest c b place bytes e f h =
@@ -107,7 +107,7 @@ module _ (constants : List ℕ) where
       let z : 0 + (14 * length before + b) ≡ 14 * length before + b = omega arith in
       in_body (14 * length before + b) place bytes g
       (stands_within _ putcs _ 0 (14 * length before + b) (14 * length before + b) z (stands_front putcs (spelling Ret))
-          (stands_within _ (putc_bytes c) _ (14 * length before) b (14 * length before + b) refl (putc_stands before rest c e) h))
+      (stands_within _ (putc_bytes c) _ (14 * length before) b (14 * length before + b) refl (putc_stands before rest c e) h))
 
   -- a constant, where those before it are written
   pub constant_stands : (before rest : List ℕ) (c place : ℕ) → constants ≡ before ++ c ∷ rest → 23 + 14 * length before ≡ place → StandsAt (code_bytes constants) place (spelling (MovImm Rcx (pos c)))

@@ -1,6 +1,7 @@
 -- The image meets the rules.
 use Rattle.std.proofs.Common.{◌≡◌, ℕ, ◌+◌, ◌%◌, ◌<◌, ◌≤◌, List, sym, subst, ◌∷◌, get_or, suc, Fits, w8, [], length, refl, ap, ◌∙◌, arith, Option, None, eq-eqb, le-leb, lt-ltb}
 use Rattle.std.proofs.lemmas.Bool.Decides.{nat_tests}
+use Rattle.std.specs.Prelude.{All}
 use Rattle.fx_image.specs.Rules.{IsImage, has_none, unlisted_from, first_unlisted}
 use Rattle.fx_image.specs.declared.forms.Image.{Image}
 use Rattle.fx_early_image.specs.Code.{range_bytes, code_bytes}
@@ -45,6 +46,10 @@ is_image constants few small = is_laid constants few small
 pub are_bytes : (cs : List ℕ) → ((k : ℕ) → Fits w8 (get_or cs k 0)) → AreBytes cs
 are_bytes [] each = tt
 are_bytes (c ∷ cs) each = let h = each 0 in (h.fits, are_bytes cs (λ k. each (suc k)))
+
+pub from_all : (cs : List ℕ) → All (λ c. c < 256) cs → AreBytes cs
+from_all [] each = tt
+from_all (c ∷ cs) each = (each 0 0 (omega arith), from_all cs (λ k d lt. each (suc k) d (omega (arith, lt))))
 
 -- what is laid out is the image
 laid : (constants : List ℕ) (n : ℕ) (code : List ℕ) → n ≡ length (range_bytes constants) → code ≡ code_bytes constants → laid_out n code ≡ early_image constants

@@ -3,9 +3,11 @@
 ghost use Rattle.std.specs.Prelude.{◌≡◌, ◌≤◌, ◌<◌, ◌^◌, [], ◌∷◌, IfOk, length, replicate, ℕ, List};
 ghost use Rattle.fx_image.specs.Rules.{IsImage};
 ghost use Rattle.fx_early_image.specs.Code.{range_bytes, code_bytes};
+ghost use Rattle.fx_early_image.specs.Faithful.{EarlyFaithful};
 ghost use Rattle.fx_early_image.specs.Layout.{compartment, table, main_entry, start, laid_out, early_image};
 
 use crate::code::{Code, assemble};
+use crate::laws::images_are_faithful;
 use fx_image::{Bytes, Comp, EntryRec, Image, List, Name, Obj, Section, Start};
 use std::alloc::{AllocError, Global};
 
@@ -113,13 +115,16 @@ fn lay_out(alloc: Global, code: Code) -> Result<Image, AllocError>
     })
 }
 
-/// The image of a program that writes these constants, at most 1,000, to the console and returns.
+/// The image of a program that writes these constants, at most 1,000, to the console and returns. It
+/// meets the field rules, and it is faithful to that program.
 #[tactic(auto, unfolding(crate::specs::Layout::early_image))]
 pub fn build(alloc: Global, constants: &[u8]) -> Result<Image, AllocError>
     requires few { length constants.now ≤ 1000 }
     ensures value { IfOk result (λ i. i ≡ early_image constants.now) }
     ensures rules { IfOk result (λ i. IsImage i) }
+    ensures faithful { IfOk result (λ i. EarlyFaithful constants.now i) }
 {
+    images_are_faithful();
     let code = assemble(alloc, constants)?;
     let image = lay_out(alloc, code)?;
     Ok(image)

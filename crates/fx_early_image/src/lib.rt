@@ -6,3 +6,6 @@
 
 pub mod build;
 mod code;
+pub mod laws;
+#[cfg(test)]
+mod tests;
