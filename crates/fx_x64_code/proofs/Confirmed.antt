@@ -1,4 +1,4 @@
-use Rattle.std.proofs.Common.{◌≡◌, ℕ, refl, Bool, true, false, ap, ◌∙◌, List, length, Option, Some, None}
+use Rattle.std.proofs.Common.{◌≡◌, ℕ, refl, Bool, true, false, ap, ◌∙◌, List, length, Some, None}
 use Rattle.std.specs.Prelude.{◌&&◌, cond, nat_eq}
 use Rattle.std.specs.List.{starts_with}
 use Rattle.fx_x64_forms.specs.declared.inst.Inst.{Inst}

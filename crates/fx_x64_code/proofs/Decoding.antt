@@ -1,13 +1,13 @@
-use Rattle.std.proofs.Common.{◌≡◌, ◌≢◌, ◌<◌, ◌≤◌, ◌+◌, ℕ, refl, arith, Bool, true, false, ap, sym, ◌∙◌, subst, List, [], ◌∷◌, ◌++◌, Option, Some, None, length, take, drop, append_assoc, length-append}
+use Rattle.std.proofs.Common.{◌≡◌, ◌≢◌, ◌<◌, ◌≤◌, ◌+◌, ℕ, refl, arith, Bool, true, false, ap, sym, ◌∙◌, subst, List, [], ◌++◌, Option, Some, None, length, take, drop, append_assoc, length-append}
 use Rattle.std.specs.Prelude.{◌&&◌, cond, nat_eq, IfSome}
 use Rattle.std.specs.List.{starts_with}
-use Rattle.std.proofs.lemmas.Bool.{false≢true, and_parts}
+use Rattle.std.proofs.lemmas.Bool.{and_parts}
 use Rattle.std.proofs.lemmas.Bool.Decides.{Decides-eqb}
 use Rattle.std.proofs.lemmas.Slice.Eq.{starts_is}
 use Rattle.std.proofs.lemmas.List.{take-append-drop, length-take-le, append-nil}
 use Rattle.std.proofs.Math.Seq.{take-append_seam}
 use Rattle.fx_x64_forms.specs.declared.inst.Inst.{Inst}
-use Rattle.fx_x64_code.specs.Spelling.{spelling, has_row, InRange, IsRow, Spells}
+use Rattle.fx_x64_code.specs.Spelling.{spelling, has_row, IsRow, Spells}
 use Rattle.fx_x64_code.specs.Guess.{guess}
 use Rattle.fx_x64_code.specs.Decoded.{decoded, confirmed}
 use Rattle.fx_x64_code.specs.Laws.{DecodesSpelling, DecodedIsSpelled, UndecodedIsUnspelled, UnspelledIsUndecoded, PrefixIsUndecoded, PrefixFree, OneInstruction, OneSpelling}

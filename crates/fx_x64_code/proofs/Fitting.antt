@@ -1,14 +1,14 @@
-use Rattle.std.proofs.Common.{◌≡◌, ◌<◌, ◌+◌, ◌*◌, ◌/◌, ◌%◌, ◌^◌, ℕ, ℤ, refl, arith, Bool, true, false, ◌==◌, subst, List, Option, Some, None, drop, lit<}
-use Rattle.std.specs.Prelude.{cond, nat_lt, slice_index, FitsSigned}
-use Rattle.std.specs.Int.{w32, cast_signed}
+use Rattle.std.proofs.Common.{◌≡◌, ◌<◌, ◌+◌, ◌*◌, ◌/◌, ◌%◌, ◌^◌, ℕ, ℤ, arith, Bool, true, false, ◌==◌, subst, List, Option, Some, None, drop, lit<}
+use Rattle.std.specs.Prelude.{cond, slice_index, FitsSigned}
+use Rattle.std.specs.Int.{w32}
 use Rattle.std.proofs.Math.Facts.{Fits-of_lt, sfits_to_z}
 use Rattle.std.proofs.Math.Nat.{mod-lt}
 use Rattle.fx_x64_forms.specs.Numbers.{register_at}
 use Rattle.fx_x64_forms.specs.declared.operand.Width.{Width}
-use Rattle.fx_x64_forms.specs.declared.operand.Width.TheVariants.{W8, W16, W32, W64}
+use Rattle.fx_x64_forms.specs.declared.operand.Width.TheVariants.{W8, W16, W32}
 use Rattle.fx_x64_forms.specs.declared.inst.AluOp.TheVariants.{Add, Sub, And, Or, Xor, Cmp, Test}
 use Rattle.fx_x64_forms.specs.declared.inst.Inst.{Inst}
-use Rattle.fx_x64_forms.specs.declared.inst.Inst.TheVariants.{Mov, Load, LoadZero, LoadSign, Zero, Sign, Store, MovImm, MovImm64, Lea, Alu, AluImm, Imul, Shift, Unary, Cqo, Setcc, Jcc, Jmp, Call, Ret, Push, Pop, Hlt, Nop, Wrpkru, Rdpkru}
+use Rattle.fx_x64_forms.specs.declared.inst.Inst.TheVariants.{Mov, Load, LoadZero, LoadSign, Zero, Sign, Store, MovImm, MovImm64, Lea, AluImm, Imul, Shift, Unary, Cqo, Setcc, Jcc, Jmp, Call, Ret, Push, Pop, Hlt, Nop, Wrpkru, Rdpkru}
 use Rattle.fx_x64_code.specs.Codes.{alu_at, shift_at, unary_at, condition_at}
 use Rattle.fx_x64_code.specs.Spelling.{InRange}
 use Rattle.fx_x64_code.specs.Guess.{guess, guess_behind, guess_opcode, guess_two, guess_operand, u32_at, i32_at, width_of, digit, field, operand, is_memory, mem_at, opcode_register, alu_of, zero_of, sign_of, mov_of}

@@ -1,21 +1,20 @@
-use Rattle.std.proofs.Common.{◌≡◌, ◌≢◌, ◌<◌, ◌+◌, ◌*◌, ◌/◌, ◌%◌, ◌^◌, ℕ, ℤ, refl, arith, Bool, true, false, ◌==◌, ap, sym, ◌∙◌, List, [], ◌∷◌, ◌++◌, Option, Some, append_assoc, lit<, lt-ltb, le-ltb}
+use Rattle.std.proofs.Common.{◌≡◌, ◌≢◌, ◌<◌, ◌+◌, ◌*◌, ◌/◌, ◌%◌, ◌^◌, ℕ, ℤ, refl, arith, Bool, true, false, ◌==◌, ap, sym, ◌∙◌, List, [], ◌∷◌, ◌++◌, Some, append_assoc, lit<, lt-ltb, le-ltb}
 use Rattle.std.specs.Prelude.{◌&&◌, not, cond, IsTrue, FitsSigned}
 use Rattle.std.specs.Int.{to_le_bytes, w32, w64, cast_unsigned, cast_signed}
 use Rattle.std.proofs.lemmas.Bool.{cond-true, cond-false, eqb-true, ne_eqb, eq-eqb, and_parts, false≢true}
 use Rattle.std.proofs.lemmas.Int.{ints, to_z-of_z}
-use Rattle.fx_x64_forms.specs.Numbers.{register_number, register_at, condition_code}
+use Rattle.fx_x64_forms.specs.Numbers.{register_number, register_at}
 use Rattle.fx_x64_forms.specs.declared.operand.Reg.{Reg}
 use Rattle.fx_x64_forms.specs.declared.operand.Width.{Width}
 use Rattle.fx_x64_forms.specs.declared.operand.Width.TheVariants.{W8, W16, W32, W64}
 use Rattle.fx_x64_forms.specs.declared.operand.Mem.{Mem}
 use Rattle.fx_x64_forms.specs.declared.inst.AluOp.{AluOp}
 use Rattle.fx_x64_forms.specs.declared.inst.AluOp.TheVariants.{Add, Sub, And, Or, Xor, Cmp, Test}
-use Rattle.fx_x64_forms.specs.declared.inst.Inst.{Inst}
-use Rattle.fx_x64_forms.specs.declared.inst.Inst.TheVariants.{Mov, Load, LoadZero, LoadSign, Zero, Sign, Store, MovImm, MovImm64, Lea, Alu, AluImm, Imul, Shift, Unary, Cqo, Setcc, Jcc, Jmp, Call, Ret, Push, Pop, Hlt, Nop, Wrpkru, Rdpkru}
-use Rattle.fx_x64_code.specs.Codes.{alu_opcode, alu_digit, alu_at, shift_digit, shift_at, unary_digit, unary_at, condition_at}
-use Rattle.fx_x64_code.specs.Spelling.{spelling, IsRow, rex, wide, direct, based, sib, le32, memory, on_register, on_memory, needs_rex, is_wide, store_spelling}
-use Rattle.fx_x64_code.specs.Guess.{guess, guess_behind, guess_opcode, guess_two, guess_operand, u32_at, i32_at, width_of, digit, field, operand, is_memory, mem_at, opcode_register, alu_of, zero_of, sign_of, mov_of}
-use Rattle.fx_x64_code.proofs.Numbers.{register_at-register_number, register_number-below, condition_at-condition_code, condition_code-below, alu_at-alu_digit, alu_digit-below, shift_at-shift_digit, shift_digit-below, unary_at-unary_digit, unary_digit-below}
+use Rattle.fx_x64_forms.specs.declared.inst.Inst.TheVariants.{LoadZero, LoadSign, Zero, Sign, Store, Alu}
+use Rattle.fx_x64_code.specs.Codes.{alu_opcode}
+use Rattle.fx_x64_code.specs.Spelling.{rex, wide, direct, based, sib, le32, memory, on_register, on_memory, needs_rex, is_wide, store_spelling}
+use Rattle.fx_x64_code.specs.Guess.{guess, guess_behind, guess_opcode, guess_two, u32_at, i32_at, width_of, digit, field, operand, is_memory, mem_at, opcode_register, alu_of, zero_of, sign_of, mov_of}
+use Rattle.fx_x64_code.proofs.Numbers.{register_at-register_number, register_number-below}
 
 -- What is spelled at the front is guessed, whatever follows it.
 

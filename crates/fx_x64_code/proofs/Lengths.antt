@@ -1,4 +1,4 @@
-use Rattle.std.proofs.Common.{◌≡◌, ◌≤◌, ◌+◌, ◌*◌, ◌/◌, ◌%◌, ℕ, ℤ, refl, arith, Bool, true, false, ◌==◌, List, [], ◌∷◌, ◌++◌, length, length-append, lit≤, ap, ◌∙◌}
+use Rattle.std.proofs.Common.{◌≡◌, ◌≤◌, ◌+◌, ◌*◌, ◌/◌, ◌%◌, ℕ, ℤ, refl, arith, Bool, true, false, ◌==◌, List, [], ◌∷◌, ◌++◌, length, length-append, lit≤}
 use Rattle.std.specs.Prelude.{◌&&◌, not, cond, IsTrue}
 use Rattle.std.specs.Int.{to_le_bytes, w64}
 use Rattle.std.proofs.lemmas.Bool.{false≢true}
@@ -6,10 +6,9 @@ use Rattle.fx_x64_forms.specs.Numbers.{register_number, condition_code}
 use Rattle.fx_x64_forms.specs.declared.operand.Width.{Width}
 use Rattle.fx_x64_forms.specs.declared.operand.Width.TheVariants.{W8, W16, W32, W64}
 use Rattle.fx_x64_forms.specs.declared.operand.Mem.{Mem}
-use Rattle.fx_x64_forms.specs.declared.inst.Inst.{Inst}
 use Rattle.fx_x64_forms.specs.declared.inst.Inst.TheVariants.{Mov, Load, LoadZero, LoadSign, Zero, Sign, Store, MovImm, MovImm64, Lea, Alu, AluImm, Imul, Shift, Unary, Cqo, Setcc, Jcc, Jmp, Call, Ret, Push, Pop, Hlt, Nop, Wrpkru, Rdpkru}
 use Rattle.fx_x64_code.specs.Codes.{alu_opcode, alu_digit, shift_digit, unary_digit, zero_opcode, sign_opcode}
-use Rattle.fx_x64_code.specs.Spelling.{spelling, IsRow, rex, wide, direct, based, sib, le32, memory, on_register, on_memory, needs_rex, is_short, is_part, store_spelling}
+use Rattle.fx_x64_code.specs.Spelling.{rex, wide, direct, sib, le32, memory, on_register, on_memory, needs_rex, is_short, is_part, store_spelling}
 use Rattle.fx_x64_code.specs.Laws.{SpellingLengths}
 
 -- How long spellings are.

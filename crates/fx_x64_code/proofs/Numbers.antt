@@ -1,4 +1,4 @@
-use Rattle.std.proofs.Common.{◌≡◌, ◌<◌, ℕ, refl, lit<}
+use Rattle.std.proofs.Common.{◌≡◌, ◌<◌, refl, lit<}
 use Rattle.fx_x64_forms.specs.Numbers.{register_number, register_at, condition_code}
 use Rattle.fx_x64_code.specs.Codes.{condition_at, alu_digit, alu_at, shift_digit, shift_at, unary_digit, unary_at}
 use Rattle.fx_x64_forms.specs.declared.operand.Reg.{Reg}

@@ -13,3 +13,5 @@ pub mod encode;
 mod guess;
 pub mod laws;
 mod spell;
+#[cfg(test)]
+mod tests;
