@@ -1,4 +1,4 @@
-use Rattle.std.specs.Prelude.{ℕ, ◌+◌, ◌-◌, ◌*◌, ◌/◌, ◌%◌, ◌^◌, nat_lt, if◌then◌else◌}
+use Rattle.std.specs.Prelude.{ℕ, ◌+◌, ◌-◌, ◌*◌, ◌/◌, ◌%◌, ◌^◌, Bool, ◌&&◌, nat_lt, if◌then◌else◌}
 use Rattle.fx_x64_forms.specs.Numbers.{width_bytes}
 use Rattle.fx_x64_forms.specs.declared.operand.Width.{Width}
 use Rattle.fx_x64_forms.specs.declared.operand.Width.TheVariants.{W8, W16, W32, W64}
@@ -23,6 +23,10 @@ byte_of v i = v / 256 ^ i % 256
 abbrev pub behind : ℕ → ℕ → ℕ
 behind a k = (k + (2 ^ 64 - a)) % 2 ^ 64
 
--- Memory with the low bytes of a number stored at an address below 2 ^ 64.
+-- Whether an address below 2 ^ 64 is one of the n from another on.
+abbrev pub is_among : ℕ → ℕ → ℕ → Bool
+is_among a n k = nat_lt k (2 ^ 64) && nat_lt (behind a k) n
+
+-- Memory with the low bytes of a number stored at an address.
 unfoldable pub stored : (ℕ → ℕ) → Width → ℕ → ℕ → ℕ → ℕ
-stored m w a v = λ k. if nat_lt (behind a k) (width_bytes w) then byte_of v (behind a k) else m k
+stored m w a v = λ k. if is_among a (width_bytes w) k then byte_of v (behind a k) else m k

@@ -8,7 +8,12 @@
 
 pub mod execute;
 pub mod finish;
+pub mod flat;
+pub mod laws;
 pub mod need;
 pub mod port;
 pub mod registers;
+pub mod step;
+#[cfg(test)]
+mod tests;
 pub mod trap;

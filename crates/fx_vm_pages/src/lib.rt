@@ -8,3 +8,5 @@
 pub mod access;
 pub mod entry;
 pub mod space;
+#[cfg(test)]
+mod tests;

@@ -11,3 +11,6 @@ pub mod quotients;
 pub mod shifts;
 pub mod sums;
 pub mod words;
+
+#[cfg(test)]
+mod tests;
