@@ -1,0 +1,7 @@
+//! Devices: what a load or a store of a register may answer, the bus that carries the operations of up to
+//! fifteen devices and writes them down, and devices in memory.
+#![tactic(auto)]
+
+mod device;
+
+pub use device::{Device, DeviceFailed};
