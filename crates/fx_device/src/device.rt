@@ -1,9 +1,7 @@
 //! What a device is.
 
-ghost use Rattle.std.specs.Prelude.{◌≡◌, ℕ, List, IsTrue, OnOk, OnErr};
-ghost use Rattle.std.specs.Result.{result_ok, is_ok};
-ghost use Rattle.fx_base.specs.Faults.{Rose};
-ghost use Rattle.fx_device.specs.Rules.{Held, LoadRule, StoreRule, held};
+ghost use Rattle.std.specs.Prelude.{◌≡◌, IfOk, OnOk, OnErr};
+ghost use Rattle.fx_device.specs.Rules.{Meaning, Answered, Failed, left_in, load, store};
 
 /// The device failed.
 #[derive(Clone, Copy, Debug, PartialEq, Eq)]
@@ -15,33 +13,18 @@ pub struct DeviceFailed;
 /// store of a register may answer, and leave, in a state. No call changes the rules, a call that
 /// succeeds leaves the count of faults, and one that fails leaves the state and raises the count.
 pub trait Device: Drop {
-    /// The state, as a list of numbers.
-    ghost state: { Self → List ℕ };
-
-    /// The count of faults.
-    ghost faults: { Self → ℕ };
-
-    /// What a load may give and leave.
-    ghost loads: { Self → LoadRule };
-
-    /// How a store may end, and what it may leave.
-    ghost stores: { Self → StoreRule };
+    /// The state, the count of faults, and the rules.
+    ghost meaning: { Self → Meaning };
 
     /// The value of a register.
     fn load(&mut self, reg: u16) -> Result<u64, DeviceFailed>
-        ensures rule { IsTrue (loads self.old (held (state self.old) (faults self.old)) reg (result_ok result) (held (state self.new) (faults self.new))) }
-        ensures ok { OnOk result (faults self.new ≡ faults self.old) }
-        ensures kept { OnErr result (state self.new ≡ state self.old) }
-        ensures failed { OnErr result (Rose (faults self.old) (faults self.new)) }
-        ensures same_loads { loads self.new ≡ loads self.old }
-        ensures same_stores { stores self.new ≡ stores self.old };
+        ensures answered { IfOk result (λ value. Answered (meaning self.old) (load reg) value (meaning self.new).now) }
+        ensures failed { OnErr result (Failed (meaning self.old) (load reg) (meaning self.new).now) }
+        ensures rules { meaning self.new ≡ left_in (meaning self.old) (meaning self.new).now };
 
     /// Sets a register.
     fn store(&mut self, reg: u16, v: u64) -> Result<(), DeviceFailed>
-        ensures rule { IsTrue (stores self.old (held (state self.old) (faults self.old)) reg v (is_ok result) (held (state self.new) (faults self.new))) }
-        ensures ok { OnOk result (faults self.new ≡ faults self.old) }
-        ensures kept { OnErr result (state self.new ≡ state self.old) }
-        ensures failed { OnErr result (Rose (faults self.old) (faults self.new)) }
-        ensures same_loads { loads self.new ≡ loads self.old }
-        ensures same_stores { stores self.new ≡ stores self.old };
+        ensures answered { OnOk result (Answered (meaning self.old) (store reg v) v (meaning self.new).now) }
+        ensures failed { OnErr result (Failed (meaning self.old) (store reg v) (meaning self.new).now) }
+        ensures rules { meaning self.new ≡ left_in (meaning self.old) (meaning self.new).now };
 }

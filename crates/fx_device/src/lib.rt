@@ -2,6 +2,9 @@
 //! fifteen devices and writes them down, and devices in memory.
 #![tactic(auto)]
 
+mod bus;
+mod bus_error;
 mod device;
 
+pub use bus_error::BusError;
 pub use device::{Device, DeviceFailed};
