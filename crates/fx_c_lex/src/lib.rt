@@ -1,0 +1,11 @@
+//! The tokens of a C source text.
+//!
+//! `tokens` cuts a text into the one list of tokens that the lexis of the C profile gives it, or says
+//! the first place where there is no token. What a token is stands in `specs/Lexis.antt`.
+#![tactic(auto)]
+
+pub mod keyword;
+pub mod sign;
+pub mod token;
+
+pub use token::{LexError, TextBytes, Token, TokenKind, TokenList};
