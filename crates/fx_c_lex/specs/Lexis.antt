@@ -1,26 +1,30 @@
 -- What a token is, what stands at the front of a text, and the tokens of a text.
-use Rattle.std.specs.Prelude.{◌≡◌, ℕ, zero, suc, Bool, List, [], ◌∷◌, Option, Some, None, Result, Ok, Err, codes, ◌==◌, ◌&&◌, ◌+◌, ◌-◌, if◌then◌else◌, take, drop, length, option_map}
-use Rattle.std.specs.List.{position_or_len}
+use Rattle.std.specs.Prelude.{◌≡◌, ℕ, zero, suc, List, [], ◌∷◌, Option, Some, None, Result, Ok, Err, codes, ◌==◌, ◌&&◌, ◌+◌, ◌-◌, if◌then◌else◌, nat_eq, take, drop, length, option_map}
+use Rattle.std.specs.List.{list_all, position_or_len, starts_with}
 use Rattle.std.specs.Char.{is_ascii_digit}
-use Rattle.std.specs.Str.{bytes_eq}
 use Rattle.fx_c_lex.specs.declared.token.Token.{Token}
 use Rattle.fx_c_lex.specs.declared.token.TokenKind.{TokenKind}
 use Rattle.fx_c_lex.specs.declared.token.LexError.{LexError}
 use Rattle.fx_c_lex.specs.declared.token.LexError.TheVariants.{Byte, OutOfMemory}
-use Rattle.fx_c_lex.specs.Bytes.{is_white_space, is_letter, is_word_byte, byte_at}
-use Rattle.fx_c_lex.specs.Words.{word, sign}
+use Rattle.fx_c_lex.specs.declared.lexer.Front.{Front}
+use Rattle.fx_c_lex.specs.declared.lexer.Front.TheVariants.{NoToken, Blank, Lexeme}
+use Rattle.fx_c_lex.specs.Bytes.{is_white_space, is_word_byte, byte_at}
+use Rattle.fx_c_lex.specs.Words.{keywords, place_of, keyword_or_name, sign}
 use Rattle.fx_c_lex.specs.Numbers.{number}
 use Rattle.fx_c_lex.specs.Quoted.{character, string}
+
+-- The name, keyword or number that these bytes, all of them, are: letters, digits and `_` alone.
+abbrev pub word : List ℕ → Option TokenKind
+word bytes = if list_all is_word_byte bytes then (if is_ascii_digit (byte_at bytes 0) then number bytes else keyword_or_name bytes (place_of keywords bytes)) else None
 
 -- The token that these bytes, all of them, are.
 abbrev pub meaning : List ℕ → Option TokenKind
 meaning [] = None
 meaning (b ∷ bytes) =
-    if is_letter b then word (b ∷ bytes)
-    else (if is_ascii_digit b then number (b ∷ bytes)
+    if is_word_byte b then word (b ∷ bytes)
     else (if b == 39 then character bytes
     else (if b == 34 then string bytes
-    else sign (b ∷ bytes))))
+    else sign (b ∷ bytes)))
 
 -- The token that the first n bytes of a text are. A name, keyword or number isn't followed directly
 -- by a letter, digit or `_`.
@@ -36,19 +40,10 @@ abbrev pub longest : List ℕ → ℕ → Option (TokenKind × ℕ)
 longest text zero = None
 longest text (suc n) = or_shorter (suc n) (token_of_length text (suc n)) (longest text n)
 
-abbrev pub starts_with : List ℕ → List ℕ → Bool
-starts_with text bytes = bytes_eq bytes (take (length bytes) text)
-
 -- How many bytes a text has to the first `*/`, with it.
 abbrev pub to_comment_end : List ℕ → Option ℕ
 to_comment_end [] = None
-to_comment_end (b ∷ bytes) = if starts_with (b ∷ bytes) (codes "*/") then Some 2 else option_map (λ n. n + 1) (to_comment_end bytes)
-
--- What stands at the front of a text: no token, white space or a comment of n bytes, or a token of n bytes.
-pub data Front : Type 0 where
-  NoToken : Front
-  Blank : (n : ℕ) → Front
-  Lexeme : (kind : TokenKind) (n : ℕ) → Front
+to_comment_end (b ∷ bytes) = if b == 42 && byte_at bytes 0 == 47 then Some 2 else option_map (λ n. n + 1) (to_comment_end bytes)
 
 abbrev pub block_comment : Option ℕ → Front
 block_comment None = NoToken
@@ -62,8 +57,8 @@ longest_token (Some found) = Lexeme found.0 found.1
 abbrev pub front : List ℕ → Front
 front text =
     if is_white_space (byte_at text 0) then Blank 1
-    else (if starts_with text (codes "/*") then block_comment (to_comment_end (drop 2 text))
-    else (if starts_with text (codes "//") then Blank (position_or_len (λ b. b == 10) text)
+    else (if starts_with nat_eq text (codes "/*") then block_comment (to_comment_end (drop 2 text))
+    else (if starts_with nat_eq text (codes "//") then Blank (position_or_len (λ b. b == 10) text)
     else longest_token (longest text (length text))))
 
 abbrev pub front_length : Front → ℕ

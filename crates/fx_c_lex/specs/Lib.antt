@@ -3,3 +3,4 @@ pub mod Words
 pub mod Numbers
 pub mod Quoted
 pub mod Lexis
+pub mod Reading

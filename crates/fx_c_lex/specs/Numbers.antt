@@ -4,13 +4,13 @@ use Rattle.std.specs.List.{prefix_len, take_while}
 use Rattle.std.specs.Char.{is_ascii_digit, is_ascii_hexdigit}
 use Rattle.fx_c_lex.specs.declared.token.TokenKind.{TokenKind}
 use Rattle.fx_c_lex.specs.declared.token.TokenKind.TheVariants.{Number}
+use Rattle.fx_c_lex.specs.declared.numbers.NumberType.{NumberType}
+use Rattle.fx_c_lex.specs.declared.numbers.NumberType.TheVariants.{Int, UnsignedInt, Long, UnsignedLong}
+use Rattle.fx_c_lex.specs.declared.numbers.Suffix.{Suffix}
+use Rattle.fx_c_lex.specs.declared.numbers.Suffix.TheVariants.{NoSuffix, U, L, UL}
+use Rattle.fx_c_lex.specs.declared.numbers.Base.{Base}
+use Rattle.fx_c_lex.specs.declared.numbers.Base.TheVariants.{Decimal, Hexadecimal}
 use Rattle.fx_c_lex.specs.Bytes.{byte_at}
-
-pub data NumberType : Type 0 where
-  Int : NumberType
-  UnsignedInt : NumberType
-  Long : NumberType
-  UnsignedLong : NumberType
 
 -- A type holds the numbers below its limit.
 abbrev pub limit : NumberType → ℕ
@@ -31,12 +31,6 @@ is_long UnsignedInt = false
 is_long Long = true
 is_long UnsignedLong = true
 
-pub data Suffix : Type 0 where
-  NoSuffix : Suffix
-  U : Suffix
-  L : Suffix
-  UL : Suffix
-
 abbrev pub is_u : ℕ → Bool
 is_u b = b == 117 || b == 85
 
@@ -49,10 +43,6 @@ suffix_of [] = Some NoSuffix
 suffix_of (a ∷ []) = if is_u a then Some U else (if is_l a then Some L else None)
 suffix_of (a ∷ b ∷ []) = if is_u a && is_l b then Some UL else None
 suffix_of (a ∷ b ∷ c ∷ bytes) = None
-
-pub data Base : Type 0 where
-  Decimal : Base
-  Hexadecimal : Base
 
 -- The types that a number may have; it has the first that holds its value.
 abbrev pub types_of : Base → Suffix → List NumberType

@@ -1,7 +1,9 @@
 -- Characters and strings.
-use Rattle.std.specs.Prelude.{ℕ, Bool, true, false, List, [], ◌∷◌, Option, Some, None, ◌==◌, ◌&&◌, if◌then◌else◌, nat_le}
+use Rattle.std.specs.Prelude.{ℕ, Bool, true, false, List, [], ◌∷◌, Option, Some, None, ◌==◌, ◌&&◌, if◌then◌else◌, nat_le, option_map}
 use Rattle.fx_c_lex.specs.declared.token.TokenKind.{TokenKind}
 use Rattle.fx_c_lex.specs.declared.token.TokenKind.TheVariants.{Char, Text}
+use Rattle.fx_c_lex.specs.declared.quoted.Piece.{Piece}
+use Rattle.fx_c_lex.specs.declared.quoted.Piece.TheVariants.{Close, Backslash, Byte, Bad}
 
 -- What stands behind a backslash, and the byte that it is: `n t r 0 \ ' "`.
 abbrev pub escape : ℕ → Option ℕ
@@ -15,27 +17,41 @@ escape b =
     else (if b == 34 then Some 34
     else None))))))
 
-abbrev pub before : Option ℕ → Option (List ℕ) → Option (List ℕ)
-before None rest = None
-before (Some b) None = None
-before (Some b) (Some bytes) = Some (b ∷ bytes)
+abbrev pub escaped_piece : Option ℕ → Piece
+escaped_piece None = Bad
+escaped_piece (Some b) = Byte b
 
--- a byte that may stand for itself between quotes
-abbrev pub plain : ℕ → Option ℕ
-plain b = if nat_le 32 b && nat_le b 126 then Some b else None
+-- What a byte is between quotes: the closing quote, a backslash that begins an escape, a byte that
+-- stands for itself or ends an escape, or nothing that may stand there.
+abbrev pub piece : (quote : ℕ) (escaped : Bool) → ℕ → Piece
+piece quote true b = escaped_piece (escape b)
+piece quote false b =
+    if b == quote then Close
+    else (if b == 92 then Backslash
+    else (if nat_le 32 b && nat_le b 126 then Byte b
+    else Bad))
+
+abbrev pub is_backslash : Piece → Bool
+is_backslash Close = false
+is_backslash Backslash = true
+is_backslash (Byte b) = false
+is_backslash Bad = false
 
 abbrev pub only_at_end : List ℕ → Option (List ℕ)
 only_at_end [] = Some []
 only_at_end (b ∷ bytes) = None
 
+abbrev pub with_piece : Piece → List ℕ → Option (List ℕ) → Option (List ℕ)
+with_piece Close bytes rest = only_at_end bytes
+with_piece Backslash bytes rest = rest
+with_piece (Byte b) bytes rest = option_map (λ found. b ∷ found) rest
+with_piece Bad bytes rest = None
+
 -- The bytes that stand between the quotes, where these are all that follows the opening quote, the
--- closing one included. `escaped` says that a backslash stands directly before.
+-- closing one included. `escaped` says that an escape's backslash stands directly before.
 abbrev pub contents : (quote : ℕ) (escaped : Bool) → List ℕ → Option (List ℕ)
 contents quote escaped [] = None
-contents quote true (b ∷ bytes) = before (escape b) (contents quote false bytes)
-contents quote false (b ∷ bytes) =
-    let rest = contents quote (b == 92) bytes in
-    if b == quote then only_at_end bytes else (if b == 92 then rest else before (plain b) rest)
+contents quote escaped (b ∷ bytes) = with_piece (piece quote escaped b) bytes (contents quote (is_backslash (piece quote escaped b)) bytes)
 
 -- exactly one byte
 abbrev pub character_by : Option (List ℕ) → Option TokenKind

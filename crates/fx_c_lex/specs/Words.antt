@@ -1,10 +1,9 @@
 -- Names, keywords and punctuation.
 use Rattle.std.specs.Prelude.{ℕ, List, [], ◌∷◌, Option, Some, None, codes, length, if◌then◌else◌, nat_le}
-use Rattle.std.specs.List.{list_all, position}
+use Rattle.std.specs.List.{position}
 use Rattle.std.specs.Str.{bytes_eq}
 use Rattle.fx_c_lex.specs.declared.token.TokenKind.{TokenKind}
 use Rattle.fx_c_lex.specs.declared.token.TokenKind.TheVariants.{Name, Keyword, Sign}
-use Rattle.fx_c_lex.specs.Bytes.{is_word_byte}
 
 -- The keywords, by their numbers from 0.
 abbrev pub keywords : List (List ℕ)
@@ -22,10 +21,6 @@ place_of spellings bytes = position (λ spelling. bytes_eq spelling bytes) spell
 abbrev pub keyword_or_name : List ℕ → Option ℕ → Option TokenKind
 keyword_or_name bytes (Some number) = Some (Keyword number)
 keyword_or_name bytes None = if nat_le (length bytes) 63 then Some Name else None
-
--- The keyword or name that these bytes, all of them, are; the first is a letter or `_`.
-abbrev pub word : List ℕ → Option TokenKind
-word bytes = if list_all is_word_byte bytes then keyword_or_name bytes (place_of keywords bytes) else None
 
 abbrev pub sign_by : Option ℕ → Option TokenKind
 sign_by None = None

@@ -4,8 +4,14 @@
 //! the first place where there is no token. What a token is stands in `specs/Lexis.antt`.
 #![tactic(auto)]
 
+mod bytes;
 pub mod keyword;
+pub mod lexer;
+pub mod numbers;
+mod quoted;
 pub mod sign;
 pub mod token;
+mod words;
 
+pub use lexer::tokens;
 pub use token::{LexError, TextBytes, Token, TokenKind, TokenList};
