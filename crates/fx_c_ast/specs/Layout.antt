@@ -1,5 +1,6 @@
 -- Sizes and alignments of types in bytes: those of the x86-64 System V ABI for the types of the profile.
 use Rattle.std.specs.Prelude.{ℕ, zero, suc, ◌+◌, ◌-◌, ◌*◌, ◌/◌, ◌<◌, ◌≤◌, max, List, [], ◌∷◌, length, slice_index_or}
+use Rattle.fx_c_ast.specs.declared.layout.Layout.{Layout}
 use Rattle.fx_c_ast.specs.declared.operator.IntType.{IntType}
 use Rattle.fx_c_ast.specs.declared.operator.IntType.TheVariants.{Char, Uchar, Short, Ushort, Int, Uint, Long, Ulong}
 use Rattle.fx_c_ast.specs.CheckedTrees.{TyTree, VoidTy, IntTy, StructTy, PtrTy, ArrayTy}
@@ -13,11 +14,6 @@ integer_size Int = 4
 integer_size Uint = 4
 integer_size Long = 8
 integer_size Ulong = 8
-
--- how much room a type takes, and of which number its places are multiples
-pub record Layout : Type 0 where
-  pub size : ℕ
-  pub align : ℕ
 
 -- the next multiple of a number
 abbrev pub round_up : ℕ → ℕ → ℕ

@@ -3,6 +3,9 @@
 #![tactic(auto)]
 
 pub mod checked;
+pub mod layout;
 pub mod operator;
 pub mod parsed;
 pub mod sequence;
+#[cfg(test)]
+mod tests;
