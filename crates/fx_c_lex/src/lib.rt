@@ -6,6 +6,7 @@
 
 mod bytes;
 pub mod keyword;
+pub mod laws;
 pub mod lexer;
 pub mod numbers;
 mod quoted;

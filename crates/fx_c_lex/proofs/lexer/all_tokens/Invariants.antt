@@ -1,7 +1,7 @@
 use Rattle.std.proofs.Common.{◌≡◌, ◌-◌, ◌≤◌, length, drop}
 use Rattle.fx_c_lex.specs.Lexis.{tokens_of, tokens_from}
 use Rattle.fx_c_lex.specs.Reading.{follow}
-use Rattle.fx_c_lex.proofs.lexer.tokens.Given as goal
+use Rattle.fx_c_lex.proofs.lexer.all_tokens.Given as goal
 
 abbrev pub invariant-loop-at : goal.invariant-loop-at
 invariant-loop-at l = record {
