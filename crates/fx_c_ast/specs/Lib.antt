@@ -1,0 +1,5 @@
+pub mod ParsedTrees
+pub mod CheckedTrees
+pub mod Elements
+pub mod Layout
+pub mod StackUse

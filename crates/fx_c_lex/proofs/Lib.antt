@@ -1,0 +1,8 @@
+mod Rows
+pub mod Prefixes
+pub mod Comments
+pub mod Contents
+pub mod Digits
+pub mod Longest
+pub mod Spellings
+pub mod Steps

@@ -1,0 +1,6 @@
+pub mod Bytes
+pub mod Words
+pub mod Numbers
+pub mod Quoted
+pub mod Lexis
+pub mod Reading

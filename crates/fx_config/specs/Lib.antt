@@ -1,0 +1,4 @@
+pub mod Answers
+pub mod Document
+pub mod Names
+pub mod Reading

@@ -1,0 +1,10 @@
+pub mod Registers
+pub mod Memory
+pub mod Does
+pub mod World
+pub mod Steps
+pub mod Fetches
+pub mod Runs
+pub mod Flat
+pub mod Laws
+pub mod FrameSlots

@@ -1,0 +1,3 @@
+pub mod Rules
+pub mod Stock
+pub mod Bus

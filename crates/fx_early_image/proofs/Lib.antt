@@ -1,0 +1,6 @@
+pub mod Lengths
+pub mod Calm
+pub mod Rules
+pub mod Places
+pub mod Turns
+pub mod Law

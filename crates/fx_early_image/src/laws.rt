@@ -1,0 +1,9 @@
+//! The law that the build's contract carries.
+
+ghost use Rattle.fx_early_image.specs.Faithful.{ImagesAreFaithful};
+
+/// The image of at most 1,000 constants is faithful to the program that writes them: for all answers
+/// of devices and all schedules its run keeps to the program's.
+pub fn images_are_faithful()
+    ensures { ImagesAreFaithful }
+{}

@@ -1,0 +1,69 @@
+-- How a source's run ends, and which stop of the machine corresponds to it.
+use Rattle.std.specs.Prelude.{ℕ, ℤ, ◌≡◌, ◌⊎◌, Bool, true, false, MatchBool}
+use Rattle.fx_vm_pages.specs.declared.access.Access.{Access}
+use Rattle.fx_vm_pages.specs.declared.access.Access.TheVariants.{Read, Write}
+use Rattle.fx_vm_pages.specs.declared.access.Refusal.{Refusal}
+use Rattle.fx_vm_pages.specs.declared.access.Refusal.TheVariants.{Unmapped, Permission, Key}
+use Rattle.fx_image.specs.Keys.{is_keyed}
+use Rattle.fx_image.specs.Layout.{object_at}
+use Rattle.fx_image.specs.declared.find.Found.{Found}
+use Rattle.fx_image.specs.declared.find.Found.TheVariants as found
+use Rattle.fx_image.specs.declared.forms.Image.{Image}
+use Rattle.fx_machine.specs.Layout.{is_ept}
+use Rattle.fx_machine.specs.declared.stop.Stop.{Stop}
+use Rattle.fx_machine.specs.declared.stop.Stop.TheVariants as stops
+
+-- The ends of a source's run, over the source's own objects:
+--   Exit         main returned; its value as a signed number of 64 bits
+--   Denied       the first access that its compartment isn't granted: a read or a write at an offset
+--                of an object
+--   StackFull    a call whose frame doesn't fit on the stack of a thread; the stack is the number of
+--                the compartment that has it, and 0 where a thread has one stack
+--   Divide       a division by zero, or a quotient that doesn't fit
+--   BadThread    a switch to a thread that isn't live
+--   ThreadsFull  a thread too many was made
+--   Undefined    a step that the source's language gives no meaning
+pub data End (Object : Type 0) : Type 0 where
+  Exit : (value : ℤ) → End Object
+  Denied : (compartment : ℕ) (object : Object) (offset : ℕ) (write : Bool) → End Object
+  StackFull : (thread stack : ℕ) → End Object
+  Divide : End Object
+  BadThread : End Object
+  ThreadsFull : End Object
+  Undefined : End Object
+
+abbrev pub IsUndefined : {Object : Type 0} → End Object → Type 0
+IsUndefined Undefined = Unit {0}
+IsUndefined _ = ⊥
+
+abbrev pub IsObject : Found → Type 0
+IsObject (found.Object object offset) = Unit {0}
+IsObject _ = ⊥
+
+abbrev pub kind_of : Bool → Access
+kind_of true = Write
+kind_of false = Read
+
+-- The refusal of an access that isn't granted: by its key where keys part the compartments. Where each
+-- has an address space the page isn't mapped, or it is that of an object that may only be read. Under
+-- plain calls nothing is denied.
+abbrev pub IsDenial : Image → ℕ → Bool → Refusal → Type 0
+IsDenial image address write refusal =
+    MatchBool (is_keyed image.mechanism) (refusal ≡ Key)
+    (MatchBool (is_ept image) ((refusal ≡ Unmapped) ⊎ ((refusal ≡ Permission) × (write ≡ true) × IsObject (object_at image address))) ⊥)
+
+-- The stop that an end corresponds to. `names` says what a place of the image stands for in the
+-- source: an offset of one of its objects, as the run ends.
+abbrev pub Corresponds : {Object : Type 0} → (Found → Object → ℕ → Type 0) → Image → End Object → Stop → Type 0
+Corresponds names image (Exit value) (stops.Exit rdi) = value ≡ rdi
+Corresponds names image (Denied compartment object offset write) (stops.Page vcpu domain address access refusal) =
+    (domain ≡ compartment) × names (object_at image address) object offset × (access ≡ kind_of write) × IsDenial image address write refusal
+Corresponds names image (StackFull thread stack) (stops.StackFull rdi rsi) = (thread ≡ rdi) × (stack ≡ rsi)
+Corresponds names image Divide stops.Divide = Unit {0}
+Corresponds names image BadThread stops.BadThread = Unit {0}
+Corresponds names image ThreadsFull stops.ThreadsFull = Unit {0}
+Corresponds names image _ _ = ⊥
+
+-- Under plain calls no refusal is a denial.
+abbrev pub NothingIsDenied : Type 0
+NothingIsDenied = (image : Image) (address : ℕ) (write : Bool) (refusal : Refusal) → image.mechanism ≡ 0 → IsDenial image address write refusal → ⊥

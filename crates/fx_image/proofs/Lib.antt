@@ -1,0 +1,4 @@
+mod Rows
+pub mod Room
+pub mod Joined
+pub mod KeySteps

@@ -1,0 +1,5 @@
+pub mod Spelling
+pub mod Keys
+pub mod Layout
+pub mod Rules
+pub mod ImageBytes

@@ -1,0 +1,4 @@
+pub mod Layout
+pub mod Boot
+pub mod Moves
+pub mod Running

@@ -1,0 +1,5 @@
+pub mod Words
+pub mod Sums
+pub mod Shifts
+pub mod Products
+pub mod Quotients
