@@ -1,0 +1,4 @@
+pub mod Fronts
+pub mod Statements
+pub mod Laws
+pub mod Whole
