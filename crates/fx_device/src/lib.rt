@@ -6,5 +6,6 @@ mod bus;
 mod bus_error;
 mod device;
 
+pub use bus::Bus;
 pub use bus_error::BusError;
 pub use device::{Device, DeviceFailed};
