@@ -1,5 +1,5 @@
 -- The boxes of the bus by the numbers of their devices.
-use Rattle.std.proofs.Common.{◌≡◌, ◌≢◌, ℕ, zero, suc, ◌<◌, ◌≤◌, ◌+◌, ◌-◌, ◌==◌, nat_eq, Bool, true, false, List, [], ◌∷◌, ◌++◌, length, map, get_or, set, slice_set, Option, Some, None, option_map, Result, Ok, Err, refl, ap, arith, sym, ◌∙◌}
+use Rattle.std.proofs.Common.{◌≡◌, ◌≢◌, ℕ, zero, suc, ◌<◌, ◌≤◌, ◌-◌, ◌==◌, false, List, [], ◌∷◌, ◌++◌, length, map, get_or, set, slice_set, Option, Some, None, option_map, Result, Ok, refl, ap, arith}
 use Rattle.std.proofs.lemmas.Bool.Decides.{nat_tests}
 use Rattle.std.proofs.lemmas.List.{map-set, get_or-map, get_or_past, set_past, length-map, get_or-set_same, get_or-set_other}
 use Rattle.fx_device.specs.Rules.{Meaning, Request}

@@ -1,12 +1,12 @@
 -- The bus keeps its law: each device in its box has the state that its operations led to.
-use Rattle.std.proofs.Common.{◌≡◌, ◌≢◌, ℕ, zero, suc, ◌==◌, nat_eq, Bool, true, false, List, [], ◌∷◌, ◌++◌, ◌⊎◌, filter, Option, Some, None, Result, Ok, Err, refl, ap, arith, sym, ◌∙◌, subst, inl, inr}
+use Rattle.std.proofs.Common.{◌≡◌, ◌≢◌, ℕ, zero, suc, nat_eq, true, false, List, [], ◌∷◌, ◌++◌, ◌⊎◌, Option, Some, None, Result, Ok, Err, refl, ap, arith, subst, inl, inr}
 use Rattle.std.proofs.lemmas.Bool.{cases_Bool}
 use Rattle.std.proofs.lemmas.Bool.Decides.{nat_tests}
 use Rattle.std.proofs.lemmas.List.{append-nil}
 use Rattle.std.proofs.lemmas.List.Elements.{filter-append}
 use Rattle.fx_base.specs.declared.device_op.DeviceOp.{DeviceOp}
 use Rattle.fx_device.specs.Rules.{Held, Meaning, left_in, Request, load, store, Answered, Failed}
-use Rattle.fx_device.specs.Bus.{BusState, box_of, with_box, operation, operations_of, written, Ends, Lands, Reaches, Carries, Leads, none, answered, failed, IsLed, BusLaw}
+use Rattle.fx_device.specs.Bus.{BusState, box_of, with_box, operation, operations_of, written, Ends, Reaches, Carries, none, answered, failed, IsLed, BusLaw}
 use Rattle.fx_device.specs.declared.bus_error.BusError.{BusError}
 use Rattle.fx_device.specs.declared.bus_error.BusError.TheVariants.{Device, OutOfMemory}
 use Rattle.fx_device.proofs.Boxes.{box_of-with_box, box_of-with_box_other, box_of-with_none}
