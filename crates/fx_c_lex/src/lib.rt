@@ -16,3 +16,6 @@ mod words;
 
 pub use lexer::tokens;
 pub use token::{LexError, TextBytes, Token, TokenKind, TokenList};
+
+#[cfg(test)]
+mod tests;
