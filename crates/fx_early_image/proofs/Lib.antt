@@ -4,3 +4,4 @@ pub mod Rules
 pub mod Places
 pub mod Turns
 pub mod Law
+pub mod Written

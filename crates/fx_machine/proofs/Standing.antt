@@ -1,6 +1,6 @@
 -- Code that stands in memory: it is fetched, and it stays.
 use Rattle.std.proofs.Common.{◌≡◌, ◌≢◌, ℕ, ◌+◌, ◌-◌, ◌*◌, ◌/◌, ◌%◌, ◌^◌, ◌<◌, ◌≤◌, ◌⊎◌, inl, inr, Bool, true, false, List, [], ◌∷◌, ◌++◌, length, get_or, Option, None, Some, refl, sym, ap, ◌∙◌, subst, arith, cond, lit≤}
-use Rattle.std.specs.Prelude.{slice_index, nat_lt}
+use Rattle.std.specs.Prelude.{slice_index, nat_lt, ◌&&◌}
 use Rattle.std.proofs.lemmas.Bool.Decides.{nat_tests}
 use Rattle.fx_outcomes.specs.Runs.{Next, Goes, Stops}
 use Rattle.fx_base.specs.declared.device_op.DeviceOp.{DeviceOp}
@@ -56,11 +56,12 @@ executes image vcpu r w i f single holds row from stands =
 
 elsewhere : (memory : ℕ → ℕ) (width : Width) (a v c : ℕ) → (behind a c < width_bytes width → ⊥) → stored memory width a v c ≡ memory c
 unfolding stored
-elsewhere memory width a v c not = cases (nat_lt (behind a c) (width_bytes width)) refl
+elsewhere memory width a v c not = cases (nat_lt c (2 ^ 64)) (nat_lt (behind a c) (width_bytes width)) refl
   where
-    cases : (t : Bool) → nat_lt (behind a c) (width_bytes width) ≡ t → cond t (byte_of v (behind a c)) (memory c) ≡ memory c
-    cases true e = let lt : behind a c < width_bytes width = grind (arith, nat_tests) in absurd (not lt)
-    cases false e = refl
+    cases : (s t : Bool) → nat_lt (behind a c) (width_bytes width) ≡ t → cond (s && t) (byte_of v (behind a c)) (memory c) ≡ memory c
+    cases false t e = refl
+    cases true true e = let lt : behind a c < width_bytes width = grind (arith, nat_tests) in absurd (not lt)
+    cases true false e = refl
 
 small_width : (width : Width) → width_bytes width ≤ 8
 small_width W8 = lit≤ tt
