@@ -1,6 +1,5 @@
 -- A move that loads from no device leaves the answers as they are, and makes one operation at most.
-use Rattle.std.proofs.Common.{◌≡◌, ◌≢◌, ℕ, ◌+◌, ◌%◌, ◌<◌, ◌≤◌, zero, suc, List, [], ◌∷◌, ◌++◌, length, Option, Some, None, Bool, true, false, refl, ap, sym, ◌∙◌, arith}
-use Rattle.std.specs.List.{AllByRecursion}
+use Rattle.std.proofs.Common.{◌≡◌, ℕ, ◌≤◌, List, [], ◌∷◌, length, Option, Some, None, true, false, refl, arith}
 use Rattle.fx_base.specs.declared.device_op.DeviceOp.{DeviceOp}
 use Rattle.fx_outcomes.specs.Runs.{Next, Goes, Stops}
 use Rattle.fx_outcomes.specs.Many.{Many, turn, placed}
@@ -19,7 +18,7 @@ use Rattle.fx_x64_forms.specs.Numbers.{width_bytes}
 use Rattle.fx_machine.specs.Layout.{page_entry}
 use Rattle.fx_vm_pages.specs.declared.access.Refusal.{Refusal}
 use Rattle.fx_image.specs.declared.forms.Image.{Image}
-use Rattle.fx_machine.specs.Moves.{World, Move, Fetched, Found, RefusedAt, Unspelled, device_at, checked, read, read_device, write, perform_need, perform, move_by, move}
+use Rattle.fx_machine.specs.Moves.{World, Move, Fetched, Found, RefusedAt, Unspelled, device_at, checked, read, read_device, write, perform_need, move_by, move}
 use Rattle.fx_machine.specs.declared.stop.Stop.{Stop}
 use Rattle.fx_run_core.specs.Ran.{AreStores}
 

@@ -1,10 +1,9 @@
 -- What the output gains over a run.
-use Rattle.std.proofs.Common.{◌≡◌, ℕ, ◌+◌, ◌<◌, ◌≤◌, List, [], ◌∷◌, ◌++◌, length, take, Option, Some, None, refl, ap, sym, ◌∙◌, subst, arith, append_assoc, min}
+use Rattle.std.proofs.Common.{◌≡◌, ℕ, ◌≤◌, List, [], ◌++◌, length, take, Option, Some, None, ap, sym, ◌∙◌, arith, append_assoc}
 use Rattle.std.proofs.lemmas.List.{append-nil}
 use Rattle.std.proofs.Math.Seq.{take-append_seam}
 use Rattle.fx_base.specs.Faults.{Rose}
 use Rattle.fx_base.specs.Told.{Told}
-use Rattle.fx_image.specs.declared.forms.Image.{Image}
 use Rattle.fx_run_core.specs.Turned.{Running}
 use Rattle.fx_run_core.specs.Ran.{Reached, outputs, run_of, Gained, GainedFront, FollowsFront, Follows, EndsIn, RanTo}
 use Rattle.fx_run_core.specs.declared.Outcome.{Outcome}

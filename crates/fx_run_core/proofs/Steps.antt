@@ -1,15 +1,15 @@
 -- One turn of a run that makes stores alone.
-use Rattle.std.proofs.Common.{◌≡◌, ◌≢◌, ℕ, ◌+◌, ◌-◌, ◌%◌, ◌<◌, ◌≤◌, ◌==◌, zero, suc, List, [], ◌∷◌, ◌++◌, length, Option, Some, None, Bool, true, false, cond, ◌&&◌, ◌⊎◌, inl, inr, refl, ap, sym, ◌∙◌, subst, arith, append_assoc, zero-add}
-use Rattle.std.specs.List.{flat_map, AllByRecursion}
+use Rattle.std.proofs.Common.{◌≡◌, ℕ, ◌+◌, ◌-◌, ◌%◌, ◌<◌, ◌≤◌, ◌==◌, suc, List, [], ◌∷◌, ◌++◌, length, Some, Bool, true, false, cond, ◌&&◌, ◌⊎◌, inl, inr, refl, ap, sym, ◌∙◌, subst, arith, append_assoc, zero-add}
 use Rattle.std.proofs.lemmas.List.{append-nil}
-use Rattle.std.proofs.lemmas.Option.{MatchOption-at_none, same_Some}
+use Rattle.std.proofs.lemmas.Option.{MatchOption-at_none}
 use Rattle.fx_base.specs.declared.device_op.DeviceOp.{DeviceOp}
 use Rattle.fx_outcomes.specs.Runs.{Next, Goes, Stops, Outcome, run, before, act, later, turns}
 use Rattle.fx_outcomes.specs.Many.{Many, turn}
 use Rattle.fx_cpu.specs.declared.registers.Regs.{Regs}
 use Rattle.fx_machine.specs.Boot.{vcpus}
 use Rattle.fx_machine.specs.Moves.{World, move}
-use Rattle.fx_machine.specs.Running.{boot}
+use Rattle.fx_machine.specs.Running.{boot, run_image}
+use Rattle.fx_image.specs.declared.forms.Image.{Image}
 use Rattle.fx_machine.specs.declared.stop.Stop.{Stop}
 use Rattle.fx_machine.specs.declared.stop.Turn.{Turn}
 use Rattle.fx_machine.specs.declared.stop.Turn.TheVariants as answers
@@ -108,6 +108,7 @@ reached_next m made budget left o n h more is same =
 -- the operations of a turn are stores, one at most, and leave the answers
 turn_keeps : (m : Running) (made budget left : ℕ) (o : List DeviceOp) (n : Many Regs World) → Reached m made budget → LoadsNothing m.image → budget - made ≡ suc left → next_of m made ≡ Goes o n
     → AreStores o × (n.world.answers ≡ ones) × (length o ≤ 1)
+unfolding run_of
 turn_keeps m made budget left o n h loads more is =
     let all : AreStores (m.made ++ (o ++ (go_on m made left n).made)) =
         subst (λ (x : Outcome DeviceOp Stop). AreStores x.made) (sym (unrolled m made budget left (Goes o n) h more is)) (loads (counting 0 budget)) in
@@ -186,6 +187,7 @@ before-none x = refl
 
 -- the boot is the first moment
 pub reached_first : (m : Running) (budget : ℕ) → m ≡ booted m.image → Reached m 0 budget
+unfolding run_of turns_of
 reached_first m budget boots =
     let whole : budget - 0 ≡ budget = omega arith in
     subst (λ (x : Running). Reached x 0 budget) (sym boots) (record {
@@ -193,3 +195,8 @@ reached_first m budget boots =
       run_is = before-none (run (turn (move m.image)) (vcpus m.image) (counting 0 (budget - 0)) (boot m.image ones)) ∙ ap (λ k. run (turn (move m.image)) (vcpus m.image) (counting 0 k) (boot m.image ones)) whole;
       turns_is = zero-add (turns (turn (move m.image)) (vcpus m.image) (counting 0 (budget - 0)) (boot m.image ones)) ∙ ap (λ k. turns (turn (move m.image)) (vcpus m.image) (counting 0 k) (boot m.image ones)) whole;
     })
+
+-- what holds of each run of an image holds of one of so many turns
+pub of_each : (image : Image) (P : Outcome DeviceOp Stop → Type 0) → ((schedule : List ℕ) → P (run_image image ones schedule)) → (budget : ℕ) → P (run_of image budget)
+unfolding run_of
+of_each image P each budget = each (counting 0 budget)

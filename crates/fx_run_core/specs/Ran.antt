@@ -26,10 +26,10 @@ abbrev pub ones : List ℕ
 ones = all_ones ∷ []
 
 -- The operations and the stop of a run of so many turns at most, and how many it makes.
-abbrev pub run_of : Image → ℕ → runs.Outcome DeviceOp Stop
+unfoldable pub run_of : Image → ℕ → runs.Outcome DeviceOp Stop
 run_of image budget = run_image image ones (counting 0 budget)
 
-abbrev pub turns_of : Image → ℕ → ℕ
+unfoldable pub turns_of : Image → ℕ → ℕ
 turns_of image budget = image_turns image ones (counting 0 budget)
 
 -- Every operation is a store.

@@ -1,6 +1,5 @@
-use Rattle.std.proofs.Common.{◌≡◌, ℕ, ◌<◌, List, [], ◌∷◌, ◌++◌, length, take, inl, inr, ap, sym, ◌∙◌, subst, arith, refl}
+use Rattle.std.proofs.Common.{◌≡◌, [], ◌∷◌, ◌++◌, take, inl, inr, ap, sym, ◌∙◌, subst, arith, refl}
 use Rattle.std.proofs.lemmas.List.{append-nil}
-use Rattle.fx_base.specs.Told.{Told}
 use Rattle.fx_base.specs.Sink.{Gains}
 use Rattle.fx_machine.specs.declared.stop.Turn.TheVariants as answers
 use Rattle.fx_run_core.specs.Turned.{Turned}
