@@ -5,4 +5,5 @@ pub mod Contents
 pub mod Digits
 pub mod Longest
 pub mod Spellings
+pub mod Ordered
 pub mod Steps

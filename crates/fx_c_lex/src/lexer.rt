@@ -1,6 +1,6 @@
 //! What stands at the front of a text, and the tokens of a text.
 
-ghost use Rattle.std.specs.Prelude.{◌≡◌, ◌≤◌, ◌<◌, ◌+◌, ◌^◌, ◌==◌, length, take, IfOk, IfSome, Some, None, true, nat_le, if◌then◌else◌};
+ghost use Rattle.std.specs.Prelude.{List, ◌≡◌, ◌≤◌, ◌<◌, ◌+◌, ◌^◌, ◌==◌, length, take, IfOk, IfSome, Some, None, true, nat_le, if◌then◌else◌};
 ghost use Rattle.std.specs.List.{prefix_len, position_or_len};
 ghost use Rattle.std.specs.Char.{is_ascii_digit};
 ghost use Rattle.fx_c_lex.specs.Bytes.{is_word_byte, byte_at};
@@ -8,6 +8,8 @@ ghost use Rattle.fx_c_lex.specs.Words.{keywords, place_of, keyword_or_name, sign
 ghost use Rattle.fx_c_lex.specs.Numbers.{number};
 ghost use Rattle.fx_c_lex.specs.Quoted.{character_by};
 ghost use Rattle.fx_c_lex.specs.Lexis.{to_comment_end, block_comment, longest, longest_token, or_shorter, front, Gives, tokens_of};
+ghost use Rattle.fx_c_lex.specs.Laws.{InOrder, StopsAfter, IfByte};
+ghost use Rattle.fx_c_lex.specs.declared.token.Token.{Token};
 ghost use Rattle.fx_c_lex.specs.Reading.{Advances, IsOther};
 
 use crate::bytes::{is_white_space, is_word_byte};
@@ -233,9 +235,9 @@ fn step(alloc: Global, tokens: &mut TokenList, at: u32, rest: &[u8]) -> Result<u
     }
 }
 
-/// The tokens of a text, in order, or the first place where there is no token.
+// The tokens of a text, one step after another.
 #[tactic(auto, using(crate::proofs::Steps::token_steps), unfolding(crate::specs::Lexis::tokens_of))]
-pub fn tokens(alloc: Global, text: &[u8]) -> Result<TokenList, LexError>
+fn all_tokens(alloc: Global, text: &[u8]) -> Result<TokenList, LexError>
     requires { length text.now ≤ 1048576 }
     ensures { Gives result (tokens_of text.now) }
 {
@@ -248,4 +250,24 @@ pub fn tokens(alloc: Global, text: &[u8]) -> Result<TokenList, LexError>
         }
     }
     Ok(tokens)
+}
+
+/// The tokens of a text, or the first place where there is no token (this project's C profile). The
+/// text has at most 1 MiB; the time is linear in its length.
+pub fn tokens(alloc: Global, text: &[u8]) -> Result<TokenList, LexError>
+    requires { length text.now ≤ 1048576 }
+
+    // The definition's answer.
+    ensures exact { Gives result (tokens_of text.now) }
+
+    // The tokens ascend, each means its slice, and white space and comments stand between them.
+    ensures in_order { IfOk result (λ ts. InOrder text.now 0 ts) }
+
+    // No other list of tokens does, and where there is one it is found.
+    ensures only { (ts : List Token) → InOrder text.now 0 ts → Gives result (Ok ts) }
+
+    // Behind the tokens before it, the place has no token.
+    ensures first { IfByte result (λ at. (ts : List Token) × StopsAfter text.now 0 ts at) }
+{
+    all_tokens(alloc, text)
 }

@@ -6,6 +6,7 @@
 
 mod bytes;
 pub mod keyword;
+pub mod laws;
 pub mod lexer;
 pub mod numbers;
 mod quoted;
@@ -15,3 +16,6 @@ mod words;
 
 pub use lexer::tokens;
 pub use token::{LexError, TextBytes, Token, TokenKind, TokenList};
+
+#[cfg(test)]
+mod tests;

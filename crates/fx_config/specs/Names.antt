@@ -1,5 +1,5 @@
 -- Names and numbers that a configuration may have, and lists in which nothing stands twice.
-use Rattle.std.specs.Prelude.{ℕ, ℤ, pos, negsuc, Bool, true, false, ◌&&◌, ◌||◌, not, nat_le, ◌==◌, List, [], ◌∷◌, length, Option, Some, None, if◌then◌else◌}
+use Rattle.std.specs.Prelude.{ℕ, ℤ, pos, negsuc, Bool, true, ◌&&◌, ◌||◌, not, nat_le, ◌==◌, List, [], ◌∷◌, length, slice_index, Option, Some, None, if◌then◌else◌}
 use Rattle.std.specs.Char.{is_ascii_alphabetic, is_ascii_alphanumeric}
 use Rattle.std.specs.Int.{is_in_range}
 use Rattle.std.specs.List.{list_all, list_any}
@@ -12,13 +12,11 @@ abbrev pub may_follow : ℕ → Bool
 may_follow byte = is_ascii_alphanumeric byte || byte == 95
 
 abbrev pub is_c_name : List ℕ → Bool
-is_c_name [] = false
-is_c_name (first ∷ rest) = may_begin first && list_all may_follow rest && nat_le (length rest) 62
+is_c_name text = may_begin (slice_index text 0) && nat_le (length text) 63 && list_all may_follow text
 
 -- a file name may be any text but the empty one
 abbrev pub is_file_name : List ℕ → Bool
-is_file_name [] = false
-is_file_name (byte ∷ rest) = true
+is_file_name text = not (length text == 0)
 
 -- the number, if it is from low to high
 abbrev pub number_in : ℕ → ℕ → ℤ → Option ℕ

@@ -3,40 +3,25 @@
 -- The document's fields, their ranges and the order of refusals are this project's own. Of each table four
 -- causes are tried in this order: a field that is not known, one that is missing, one of another type, one out of
 -- its range. The top table comes first, then each library, then each compartment.
-use Rattle.std.specs.Prelude.{ℕ, ℤ, Bool, true, ◌&&◌, nat_le, List, [], ◌∷◌, length, codes, bytes_eq, ◌==◌, Option, Some, None, option_map, ok_or, unwrap_or, position, flat_map, Result, Ok, Err, if◌then◌else◌, map}
+use Rattle.std.specs.Prelude.{ℕ, ℤ, Bool, true, ◌&&◌, nat_le, List, [], ◌∷◌, length, codes, bytes_eq, nat_eq, Option, Some, None, ok_or, position, flat_map, Ok, Err, if◌then◌else◌, map}
 use Rattle.std.specs.List.{list_all, list_any}
 use Rattle.std.specs.Int.{is_in_range}
 use Rattle.std.specs.Str.{is_utf8}
-use Rattle.toml.specs.Data.{Data, Members, get_member, as_str, as_integer}
+use Rattle.toml.specs.Data.{Members, get_member}
 use Rattle.toml.specs.Parse.{parse_document}
 use Rattle.fx_config.specs.declared.configuration.Mechanism.{Mechanism}
 use Rattle.fx_config.specs.declared.configuration.Mechanism.TheVariants.{Call, Light, Full, Ept}
 use Rattle.fx_config.specs.declared.configuration.Config.{Config}
 use Rattle.fx_config.specs.declared.configuration.Library.{Library}
 use Rattle.fx_config.specs.declared.configuration.Compartment.{Compartment}
-use Rattle.fx_config.specs.declared.configuration.ConfigError.TheVariants.{NotToml, UnknownField, Missing, WrongType, OutOfRange, TwoPlaces}
+use Rattle.fx_config.specs.declared.configuration.ConfigError.TheVariants.{NotToml, UnknownField, OutOfRange, TwoPlaces}
 use Rattle.fx_config.specs.Answers.{Reading, ◌>>=◌, demand, read_each}
-use Rattle.fx_config.specs.Document.{keys, each_as, as_strings, as_integers, as_tables}
+use Rattle.fx_config.specs.Document.{keys, required, if_there, each_if_there, string_of, integer_of, strings_of, integers_of, tables_of}
 use Rattle.fx_config.specs.Names.{is_c_name, is_file_name, number_in, all_differ}
-
--- ---- fields of one table
 
 -- every key of the table is one of these
 abbrev pub has_only : List (List ℕ) → Members → Bool
-has_only fields table = list_all (λ key. list_any (bytes_eq key) fields) (keys table)
-
--- the value at a key that has to be there
-abbrev pub required : List ℕ → Members → Reading Data
-required key table = ok_or (get_member key table) Missing
-
--- the value at a type
-abbrev pub typed : {A : Type 0} → (Data → Option A) → Data → Reading A
-typed kind value = ok_or (kind value) WrongType
-
--- the value at a type, of a field that may be left out
-abbrev pub typed_if_there : {A : Type 0} → (Data → Option A) → Option Data → Reading (Option A)
-typed_if_there kind None = Ok None
-typed_if_there kind (Some value) = typed kind value >>= (λ x. Ok (Some x))
+has_only fields table = list_all (λ key. list_any (λ field. bytes_eq field key) fields) (keys table)
 
 -- the test passes, or there is nothing to try it on
 abbrev pub passes_if_there : {A : Type 0} → (A → Bool) → Option A → Bool
@@ -49,21 +34,25 @@ abbrev pub library_of : Members → Reading Library
 library_of table =
     demand (has_only (codes "name" ∷ codes "files" ∷ []) table) UnknownField
     (required (codes "name") table >>= (λ name. required (codes "files") table >>= (λ files.
-    typed as_str name >>= (λ name. typed as_strings files >>= (λ files.
+    string_of name >>= (λ name. strings_of files >>= (λ files.
     demand (is_c_name name && list_all is_file_name files) OutOfRange
     (Ok (record { name = name; files = files })))))))
 
 -- ---- a compartment
 
+-- the number of a device
+abbrev pub device_of : ℤ → Reading ℕ
+device_of number = ok_or (number_in 0 15 number) OutOfRange
+
 abbrev pub compartment_of : Members → Reading Compartment
 compartment_of table =
     demand (has_only (codes "name" ∷ codes "libraries" ∷ codes "calls" ∷ codes "devices" ∷ []) table) UnknownField
     (required (codes "name") table >>= (λ name. required (codes "libraries") table >>= (λ libraries.
-    typed as_str name >>= (λ name. typed as_strings libraries >>= (λ libraries.
-    typed_if_there as_strings (get_member (codes "calls") table) >>= (λ calls.
-    typed_if_there as_integers (get_member (codes "devices") table) >>= (λ devices.
+    string_of name >>= (λ name. strings_of libraries >>= (λ libraries.
+    if_there strings_of (get_member (codes "calls") table) >>= (λ calls.
+    each_if_there integers_of (get_member (codes "devices") table) >>= (λ devices.
     demand (is_c_name name && list_all is_c_name libraries && passes_if_there (list_all is_c_name) calls) OutOfRange
-    (ok_or (each_as (number_in 0 15) (unwrap_or devices [])) OutOfRange >>= (λ devices.
+    (read_each device_of devices >>= (λ devices.
     Ok (record { name = name; libraries = libraries; calls = calls; devices = devices }))))))))))
 
 -- ---- the top table
@@ -101,9 +90,9 @@ abbrev pub top_of : Members → Reading Top
 top_of table =
     demand (has_only (codes "mechanism" ∷ codes "stack_pages" ∷ codes "scheduler" ∷ codes "library" ∷ codes "compartment" ∷ []) table) UnknownField
     (required (codes "mechanism") table >>= (λ word. required (codes "library") table >>= (λ libraries. required (codes "compartment") table >>= (λ compartments.
-    typed as_str word >>= (λ word. typed as_tables libraries >>= (λ libraries. typed as_tables compartments >>= (λ compartments.
-    typed_if_there as_integer (get_member (codes "stack_pages") table) >>= (λ pages.
-    typed_if_there as_str (get_member (codes "scheduler") table) >>= (λ scheduler.
+    string_of word >>= (λ word. tables_of libraries >>= (λ libraries. tables_of compartments >>= (λ compartments.
+    if_there integer_of (get_member (codes "stack_pages") table) >>= (λ pages.
+    if_there string_of (get_member (codes "scheduler") table) >>= (λ scheduler.
     ok_or (mechanism_of word) OutOfRange >>= (λ mechanism.
     ok_or (stack_pages_of pages) OutOfRange >>= (λ stack_pages.
     demand (passes_if_there is_c_name scheduler && is_in_range 1 64 (length libraries) && is_in_range 1 (compartment_limit mechanism) (length compartments)) OutOfRange
@@ -130,7 +119,7 @@ devices_of compartments = flat_map (λ (c : Compartment). c.devices) compartment
 abbrev pub stands_once : List Library → List Compartment → Bool
 stands_once libraries compartments =
     all_differ bytes_eq (map (λ (l : Library). l.name) libraries) && all_differ bytes_eq (map (λ (c : Compartment). c.name) compartments)
-    && all_differ bytes_eq (libraries_of compartments) && all_differ bytes_eq (files_of libraries) && all_differ ◌==◌ (devices_of compartments)
+    && all_differ bytes_eq (libraries_of compartments) && all_differ bytes_eq (files_of libraries) && all_differ nat_eq (devices_of compartments)
 
 abbrev pub config_of : Members → Reading Config
 config_of document =
@@ -142,6 +131,10 @@ config_of document =
     demand (stands_once libraries compartments) TwoPlaces
     (Ok (record { mechanism = top.mechanism; stack_pages = top.stack_pages; scheduler = scheduler; libraries = libraries; compartments = compartments })))))))
 
+-- the table that a text is, if it is UTF-8 and a document of TOML 1.1
+unfoldable pub document_of : List ℕ → Reading Members
+document_of text = if is_utf8 text then ok_or (parse_document text) NotToml else Err NotToml
+
 -- the configuration that a text is, or its first refusal
-unfoldable pub configuration_of : List ℕ → Reading Config
-configuration_of text = if is_utf8 text then (ok_or (parse_document text) NotToml >>= config_of) else Err NotToml
+abbrev pub configuration_of : List ℕ → Reading Config
+configuration_of text = document_of text >>= config_of

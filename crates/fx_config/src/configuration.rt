@@ -1,6 +1,10 @@
 //! What a configuration document means, and why one is refused.
 
+ghost use Rattle.fx_config.specs.declared.configuration.ConfigError.TheVariants.{OutOfMemory};
+ghost use Rattle.std.specs.Prelude.{◌≡◌};
+
 use crate::lists::{Bytes, FileName, Name, Sequence};
+use std::alloc::{AllocError, AllocFailed};
 use thiserror::Error;
 
 /// What separates the compartments of an image from one another.
@@ -76,4 +80,20 @@ pub enum ConfigError {
     TwoPlaces,
     #[error("out of memory")]
     OutOfMemory,
+}
+
+impl From<AllocError> for ConfigError {
+    ghost from_gives = { λ _ e. e ≡ OutOfMemory };
+
+    fn from(_error: AllocError) -> ConfigError {
+        ConfigError::OutOfMemory
+    }
+}
+
+impl<T: Drop> From<AllocFailed<T>> for ConfigError {
+    ghost from_gives = { λ _ e. e ≡ OutOfMemory };
+
+    fn from(_error: AllocFailed<T>) -> ConfigError {
+        ConfigError::OutOfMemory
+    }
 }

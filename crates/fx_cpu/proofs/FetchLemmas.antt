@@ -11,7 +11,7 @@ use Rattle.fx_cpu.specs.declared.registers.Regs.{Regs}
 use Rattle.fx_cpu.specs.declared.trap.PortStop.{PortStop}
 use Rattle.fx_cpu.specs.declared.trap.Trap.TheVariants as traps
 use Rattle.fx_cpu.specs.declared.trap.Stepped.{Stepped}
-use Rattle.fx_cpu.specs.declared.trap.Stepped.TheVariants.{Went, Fault}
+use Rattle.fx_cpu.specs.declared.trap.Stepped.TheVariants.{Fault}
 
 -- n bytes are fetched, of at most 15
 module _ (n : ℕ) (text : List ℕ) (r : Regs) (o mid : World) (h : n < 15) (l : length text ≡ 15) where

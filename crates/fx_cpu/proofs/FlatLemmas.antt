@@ -1,5 +1,5 @@
-use Rattle.std.proofs.Common.{inr, inl, lt-ltb, le-ltb, ◌≡◌, ◌≢◌, ◌<◌, ◌≤◌, ◌+◌, ◌-◌, ◌*◌, ◌/◌, ◌%◌, ◌^◌, ◌⊎◌, ℕ, List, length, refl, arith, ap, sym, add-one, ◌∙◌, ⊎_elim, get_or-set_other, get_or-set_same, bit_and}
-use Rattle.std.specs.Prelude.{slice_index, slice_set, nat_le, nat_lt, ◌&&◌}
+use Rattle.std.proofs.Common.{inr, lt-ltb, le-ltb, ◌≡◌, ◌≢◌, ◌<◌, ◌≤◌, ◌+◌, ◌-◌, ◌/◌, ◌%◌, ◌^◌, ℕ, List, length, arith, ap, sym, add-one, ◌∙◌, ⊎_elim, get_or-set_other, get_or-set_same, bit_and}
+use Rattle.std.specs.Prelude.{slice_index, slice_set, nat_le, nat_lt}
 use Rattle.std.proofs.lemmas.Bool.{cond-true, cond-false, cases_eq, cases_lt, and_from, and_left, and_right, le-leb, lt-leb}
 use Rattle.std.proofs.lemmas.Bool.Decides.{nat_tests}
 use Rattle.std.proofs.lemmas.Nat.{and_mask}
@@ -8,7 +8,7 @@ use Rattle.fx_x64_forms.specs.Numbers.{width_bytes}
 use Rattle.fx_x64_forms.specs.declared.operand.Width.{Width}
 use Rattle.fx_cpu.proofs.Memory.{byte_other, byte_at, beyond}
 use Rattle.fx_cpu.specs.Flat.{written, bytes_of}
-use Rattle.fx_cpu.specs.Memory.{byte_of, stored, behind}
+use Rattle.fx_cpu.specs.Memory.{byte_of, stored}
 
 pub next_rest : (v i rest : ℕ) → rest ≡ v / 256 ^ i → rest / 256 ≡ v / 256 ^ (i + 1)
 next_rest v i rest e = ap (λ x. x / 256) e ∙ div-div-eq-div-mul v (256 ^ i) 256 ∙ ap (λ x. v / x) (rw (add-one, pow-suc 256 i))

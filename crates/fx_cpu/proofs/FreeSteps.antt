@@ -1,7 +1,6 @@
 use Rattle.std.proofs.Common.{◌≡◌, ℕ, suc, zero, None, Some, Option, Bool, true, false, refl, ap, Err, Ok, Result, List, [], ◌∷◌, ◌++◌, ◌∙◌}
 use Rattle.std.specs.Prelude.{MatchResult, MatchOption}
 use Rattle.fx_x64_forms.specs.declared.inst.Inst.{Inst}
-use Rattle.fx_vm_pages.specs.declared.entry.Pkru.{Pkru}
 use Rattle.fx_vm_pages.specs.declared.access.Refusal.{Refusal}
 use Rattle.fx_vm_pages.specs.declared.access.Access.TheVariants.{Fetch}
 use Rattle.fx_x64_code.specs.Decoded.{decoded}
@@ -49,7 +48,7 @@ free_steps_run i len r o t s n f h = by_need (need i (past r len)) i (past r len
 
 -- ---- a trap keeps
 
-not_done_keeps : (o n : World) (refusal : Option (ℕ × Refusal)) (device : Option ℕ) (waits : Bool) (e : PortStop) → NotDone o refusal device waits e n → (n.bytes ≡ o.bytes) × (n.notes ≡ o.notes)
+pub not_done_keeps : (o n : World) (refusal : Option (ℕ × Refusal)) (device : Option ℕ) (waits : Bool) (e : PortStop) → NotDone o refusal device waits e n → (n.bytes ≡ o.bytes) × (n.notes ≡ o.notes)
 not_done_keeps o n refusal device waits (Refused at why) h = (ap (λ w. w.bytes) h.1, ap (λ w. w.notes) h.1)
 not_done_keeps o n refusal device waits (Outside (Device i)) h = let z = h.3.0 in (ap (λ w. w.bytes) z, ap (λ w. w.notes) z)
 not_done_keeps o n refusal device waits (Outside Input) h = (ap (λ w. w.bytes) h.2, ap (λ w. w.notes) h.2)

@@ -1,4 +1,4 @@
-use Rattle.std.proofs.Common.{◌≡◌, ◌<◌, ◌≤◌, ◌+◌, ◌-◌, ◌*◌, ◌/◌, ◌%◌, ◌^◌, ◌⊎◌, ℕ, ℤ, pos, negsuc, arith, Bool, true, false, ap, ◌∙◌, inl, inr, ⊎_elim, lit<, lt-ltb, le-ltb}
+use Rattle.std.proofs.Common.{◌≡◌, ◌<◌, ◌≤◌, ◌+◌, ◌-◌, ◌^◌, ◌⊎◌, ℕ, pos, negsuc, arith, Bool, true, false, ap, ◌∙◌, inl, inr, ⊎_elim, lit<, lt-ltb, le-ltb}
 use Rattle.std.specs.Prelude.{◌&&◌, nat_lt, if◌then◌else◌}
 use Rattle.std.proofs.lemmas.Bool.{cond-true, cond-false, cases_lt, and_from, and_left, and_right}
 use Rattle.fx_x64_forms.specs.Numbers.{width_bytes}

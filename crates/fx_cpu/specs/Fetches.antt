@@ -7,7 +7,7 @@ use Rattle.fx_cpu.specs.declared.registers.Regs.{Regs}
 use Rattle.fx_cpu.specs.declared.trap.PortStop.{PortStop}
 use Rattle.fx_cpu.specs.declared.trap.Trap.TheVariants as traps
 use Rattle.fx_cpu.specs.declared.trap.Stepped.{Stepped}
-use Rattle.fx_cpu.specs.declared.trap.Stepped.TheVariants.{Went, Fault}
+use Rattle.fx_cpu.specs.declared.trap.Stepped.TheVariants.{Fault}
 
 -- The bytes from RIP on are fetched one at a time until they are a spelling, whose instruction is then
 -- done. Here `text` was fetched, and at most so many more are: where that many are no spelling, the

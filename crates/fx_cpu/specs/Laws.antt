@@ -1,11 +1,11 @@
-use Rattle.std.specs.Prelude.{ℕ, negsuc, ◌≡◌, ◌<◌, ◌≤◌, ◌+◌, ◌-◌, ◌^◌, ◌⊎◌, false, None}
+use Rattle.std.specs.Prelude.{ℕ, ◌≡◌, ◌≢◌, ◌<◌, ◌≤◌, ◌+◌, ◌^◌, ◌⊎◌, false, None, List, [], ◌∷◌, ◌++◌, length, All}
 use Rattle.fx_x64_forms.specs.Numbers.{width_bytes}
 use Rattle.fx_x64_forms.specs.declared.operand.Width.{Width}
 use Rattle.fx_x64_forms.specs.declared.inst.Inst.{Inst}
 use Rattle.fx_vm_pages.specs.declared.entry.Pkru.{Pkru}
-use Rattle.fx_vm_pages.specs.declared.access.Access.TheVariants.{Read, Write}
+use Rattle.fx_vm_pages.specs.declared.access.Access.TheVariants.{Read, Write, Fetch}
 use Rattle.fx_word_ops.specs.Words.{size}
-use Rattle.fx_cpu.specs.Registers.{past, plus, above, below}
+use Rattle.fx_cpu.specs.Registers.{past}
 use Rattle.fx_cpu.specs.Memory.{word_at, stored}
 use Rattle.fx_cpu.specs.Does.{need}
 use Rattle.fx_cpu.specs.World.{World}
@@ -13,6 +13,7 @@ use Rattle.fx_cpu.specs.Steps.{Does}
 use Rattle.fx_cpu.specs.Fetches.{StepDoes}
 use Rattle.fx_cpu.specs.Runs.{State, run_one}
 use Rattle.fx_cpu.specs.declared.registers.Regs.{Regs}
+use Rattle.fx_cpu.specs.declared.port.Place.{Place}
 use Rattle.fx_cpu.specs.declared.need.Need.{Need}
 use Rattle.fx_cpu.specs.declared.need.Need.TheVariants.{Quiet, Reads, Writes, Stops}
 use Rattle.fx_cpu.specs.declared.trap.Trap.{Trap}
@@ -72,3 +73,27 @@ abbrev pub StepTrapsKeep : Type 0
 StepTrapsKeep =
     (r : Regs) (o : World) (trap : Trap) (s : Regs) (n : World) →
     StepDoes r o (Fault trap) s n → (s ≡ r) × (n.bytes ≡ o.bytes)
+
+-- ---- Accesses
+
+abbrev pub IsFetch : Place × ℕ → Type 0
+IsFetch note = note.0.access ≡ Fetch
+
+abbrev pub IsData : Place × ℕ → Type 0
+IsData note = note.0.access ≢ Fetch
+
+-- The accesses carried out are the earlier ones, with at most one data access behind them.
+abbrev pub AtMostOne : List (Place × ℕ) → List (Place × ℕ) → Type 0
+AtMostOne before after = (after ≡ before) ⊎ ((note : Place × ℕ) × IsData note × (after ≡ before ++ note ∷ []))
+
+-- An instruction makes at most one data access.
+abbrev pub OneAccess : Type 0
+OneAccess =
+    (i : Inst) (len : ℕ) (r : Regs) (o : World) (t : Stepped) (s : Regs) (n : World) →
+    Does i len r o t s n → AtMostOne o.notes n.notes
+
+-- A step fetches at most fifteen bytes, and then makes at most one data access.
+abbrev pub StepOneAccess : Type 0
+StepOneAccess =
+    (r : Regs) (o : World) (t : Stepped) (s : Regs) (n : World) → StepDoes r o t s n →
+    (fetches : List (Place × ℕ)) × All IsFetch fetches × (length fetches ≤ 15) × AtMostOne (o.notes ++ fetches) n.notes

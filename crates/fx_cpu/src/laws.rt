@@ -1,6 +1,6 @@
 //! Laws of the table's definitions, for whoever reasons about instructions one after the other.
 
-ghost use Rattle.fx_cpu.specs.Laws.{StoresLeaveOthers, LoadsGiveStored, WordsFit, StoresKeepBytes, FreeStepsRun, TrapsKeep, StepTrapsKeep};
+ghost use Rattle.fx_cpu.specs.Laws.{StoresLeaveOthers, LoadsGiveStored, WordsFit, StoresKeepBytes, FreeStepsRun, TrapsKeep, StepTrapsKeep, OneAccess, StepOneAccess};
 ghost use Rattle.fx_cpu.specs.FrameSlots.{FrameSlotsHold};
 
 /// What loads and stores of words mean together.
@@ -20,6 +20,12 @@ pub fn free_steps_run()
 pub fn traps_keep()
     ensures instruction { TrapsKeep }
     ensures step { StepTrapsKeep }
+{}
+
+/// An instruction makes at most one data access, and a step at most fifteen fetches before it.
+pub fn one_access()
+    ensures instruction { OneAccess }
+    ensures step { StepOneAccess }
 {}
 
 /// A push, a store to a slot, a load of another slot, an add and a pop leave exactly the registers

@@ -1,5 +1,5 @@
 -- What a device is to contracts: its state, its count of faults, and the rules of its operations.
-use Rattle.std.specs.Prelude.{◌≡◌, ℕ, Bool, true, false, IsTrue, List, Option, Some, None, Result, Ok, Err}
+use Rattle.std.specs.Prelude.{◌≡◌, ℕ, Bool, true, false, IsTrue, List, Option, Some, None}
 use Rattle.fx_base.specs.Faults.{Rose}
 
 -- a device's state, as a list of numbers, and its count of faults

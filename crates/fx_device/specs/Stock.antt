@@ -1,5 +1,5 @@
 -- The rules of the devices in memory.
-use Rattle.std.specs.Prelude.{◌≡◌, ℕ, ◌+◌, ◌%◌, ◌^◌, Bool, true, false, ◌&&◌, nat_eq, ◌==◌, List, [], ◌∷◌, drop, slice_index, slice_set, Option, Some, None, is_some, is_none, bytes_eq, if◌then◌else◌}
+use Rattle.std.specs.Prelude.{◌≡◌, ℕ, ◌+◌, ◌%◌, ◌^◌, Bool, false, ◌&&◌, nat_eq, ◌==◌, List, [], ◌∷◌, drop, slice_index, slice_set, Option, Some, None, is_some, is_none, bytes_eq, if◌then◌else◌}
 use Rattle.std.specs.List.{list_any}
 use Rattle.fx_base.specs.Faults.{counted}
 use Rattle.fx_device.specs.Rules.{Held, held, LoadRule, StoreRule}

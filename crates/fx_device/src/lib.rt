@@ -2,9 +2,16 @@
 //! fifteen devices and writes them down, and devices in memory.
 #![tactic(auto)]
 
+mod block_store;
 mod bus;
 mod bus_error;
+mod counter;
 mod device;
+mod fail_at;
 
+pub use block_store::BlockStore;
+pub use bus::Bus;
 pub use bus_error::BusError;
+pub use counter::Counter;
 pub use device::{Device, DeviceFailed};
+pub use fail_at::FailAt;

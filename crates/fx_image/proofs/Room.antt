@@ -8,7 +8,7 @@ use Rattle.std.proofs.lemmas.List.Elements.{All-from_recursion}
 use Rattle.std.proofs.lemmas.List.{length-drop}
 use Rattle.std.proofs.lemmas.List.Sums.{sum_by-cons}
 use Rattle.fx_image.specs.Spelling.{HasRoom}
-use Rattle.fx_image.specs.Rules.{IsImage, is_c_name, is_object_name, is_object, is_inside, is_trimmed, table_prefix, are_spread, are_few, is_entry, has_room, are_counted, are_apart, are_ranges, is_distinct_by}
+use Rattle.fx_image.specs.Rules.{IsImage, is_c_name, is_object_name, is_object, is_inside, is_trimmed, table_prefix, are_spread, are_few, is_entry, has_room, are_counted, are_apart, are_ranges, is_distinct_by, is_pair}
 use Rattle.fx_image.specs.Keys.{is_keyed}
 use Rattle.std.specs.Str.{bytes_eq}
 use Rattle.fx_image.specs.declared.forms.Comp.{Comp}
@@ -86,23 +86,32 @@ pub record Roomy (i : Image) : Type 0 where
   pub names : All (λ c. length c.name < 256) i.compartments
   pub pages : sum_by (λ s. s.pages) i.sections ≤ 16384
   pub sections : length i.sections < 2 ^ 16
+  pub count : length i.objects < 2 ^ 32
   pub objects : All HasRoom i.objects
   pub entries : All (λ e. length e.name < 256) i.entries
 
--- the first two of the tests of the sections
-spread_and_few : (a b c d e f g h : Bool) → (((((((a && b) && c) && d) && e) && f) && g) && h) ≡ true → (a ≡ true) × (b ≡ true)
-spread_and_few a b c d e f g h all =
+-- the tests of the sections that are needed
+pub record SectionsTests (i : Image) : Type 0 where
+  pub spread : are_spread 0x10000 i.sections ≡ true
+  pub few : are_few i.mechanism i.sections ≡ true
+  pub pairs : list_all (is_pair i.version (length i.compartments)) i.sections ≡ true
+
+taken_apart : (a b c d e f g h : Bool) → (((((((a && b) && c) && d) && e) && f) && g) && h) ≡ true → (a ≡ true) × (b ≡ true) × (d ≡ true)
+taken_apart a b c d e f g h all =
     let p1 = and_parts ((((((a && b) && c) && d) && e) && f) && g) h all in
     let p2 = and_parts (((((a && b) && c) && d) && e) && f) g p1.0 in
     let p3 = and_parts ((((a && b) && c) && d) && e) f p2.0 in
     let p4 = and_parts (((a && b) && c) && d) e p3.0 in
     let p5 = and_parts ((a && b) && c) d p4.0 in
-    and_parts a b (and_parts (a && b) c p5.0).0
+    let p6 = and_parts a b (and_parts (a && b) c p5.0).0 in
+    (p6.0, p6.1, p5.1)
 
-sections_are : (i : Image) → IsImage i → (are_spread 0x10000 i.sections ≡ true) × (are_few i.mechanism i.sections ≡ true)
-sections_are i is = spread_and_few _ _ _ _ _ _ _ _ is.sections
+pub sections_tests : (i : Image) → IsImage i → SectionsTests i
+sections_tests i is =
+    let all = taken_apart _ _ _ _ _ _ _ _ is.sections in
+    record { spread = all.0; few = all.1; pairs = all.2 }
 
-most_compartments : (i : Image) → IsImage i → length i.compartments < 17
+pub most_compartments : (i : Image) → IsImage i → length i.compartments < 17
 most_compartments i is =
     let n = length i.compartments in
     let few = (and_parts (leb 1 n) (leb n (cond (eqb i.mechanism 3) 16 8)) is.count).1 in
@@ -113,8 +122,8 @@ pub roomy : (i : Image) → IsImage i → Roomy i
 roomy i is =
     let named = and_parts (list_all (λ c. is_c_name c.name) i.compartments && is_distinct_by (λ a b. bytes_eq a.name b.name) i.compartments) (are_ranges 0 i.compartments) is.compartments in
     let names = and_parts (list_all (λ c. is_c_name c.name) i.compartments) (is_distinct_by (λ a b. bytes_eq a.name b.name) i.compartments) named.0 in
-    let s = sections_are i is in
-    let pages : sum_by (λ s. s.pages) i.sections ≤ 16384 = leb-true _ _ (and_parts (leb (sum_by (λ s. s.pages) i.sections) 16384) (not (is_keyed i.mechanism) || leb (length i.sections) 14) s.1).0 in
+    let s = sections_tests i is in
+    let pages : sum_by (λ s. s.pages) i.sections ≤ 16384 = leb-true _ _ (and_parts (leb (sum_by (λ s. s.pages) i.sections) 16384) (not (is_keyed i.mechanism) || leb (length i.sections) 14) s.few).0 in
     let o1 = and_parts ((leb (length i.objects) 32016 && list_all (is_object i.sections) i.objects) && are_apart 0 i.objects) (is_distinct_by (λ a b. bytes_eq a.name b.name) i.objects) is.objects in
     let o2 = and_parts (leb (length i.objects) 32016 && list_all (is_object i.sections) i.objects) (are_apart 0 i.objects) o1.0 in
     let o3 = and_parts (leb (length i.objects) 32016) (list_all (is_object i.sections) i.objects) o2.0 in
@@ -124,7 +133,8 @@ roomy i is =
       compartments = most_compartments i is;
       names = all_of_test (λ c. is_c_name c.name) (λ c. length c.name < 256) (λ c e. let short = short_c_name c.name e in omega (arith, short)) i.compartments names.0;
       pages = pages;
-      sections = let few = few_sections 0x10000 i.sections s.0 in omega (arith, few, pages);
+      sections = let few = few_sections 0x10000 i.sections s.spread in omega (arith, few, pages);
+      count = omega (arith, leb-true _ _ o3.0);
       objects = all_of_test (is_object i.sections) HasRoom (λ o e. object_room i.sections o pages e) i.objects o3.1;
       entries = all_of_test (is_entry i.compartments) (λ e. length e.name < 256) (λ e h. entry_room i.compartments e h) i.entries e2.1;
     }

@@ -3,3 +3,5 @@ pub mod Keys
 pub mod Layout
 pub mod Rules
 pub mod ImageBytes
+pub mod Reading
+pub mod Fits

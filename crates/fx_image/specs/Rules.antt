@@ -195,13 +195,19 @@ is_key_sequence code at = starts_with nat_eq (drop at code) key_sequence
 abbrev pub is_in_runtime : List Comp → List ℕ → ℕ → Bool
 is_in_runtime comps code at = nat_le (ranges_end comps) at && nat_lt at (length code)
 
+-- from one of n compartments to another
+abbrev pub is_between : ℕ → Stub → Bool
+is_between n s = not (s.from == s.to) && nat_lt s.from n && nat_lt s.to n
+
+-- in the runtime's range, with a WRPKRU at both of its places
+abbrev pub is_placed : List Comp → List ℕ → Stub → Bool
+is_placed comps code s =
+    is_in_runtime comps code s.offset && nat_lt s.offset s.first && nat_lt s.first s.second
+    && is_in_runtime comps code s.second && is_key_sequence code s.first && is_key_sequence code s.second
+
 abbrev pub is_stub : List Comp → List ℕ → List EntryRec → Stub → Bool
 is_stub comps code entries s =
-    not (s.from == s.to) && nat_lt s.from (length comps) && nat_lt s.to (length comps)
-    && nat_lt s.entry (entry_count entries s.to)
-    && is_in_runtime comps code s.offset && nat_lt s.offset s.first
-    && nat_lt s.first s.second && is_in_runtime comps code s.second
-    && is_key_sequence code s.first && is_key_sequence code s.second
+    is_between (length comps) s && nat_lt s.entry (entry_count entries s.to) && is_placed comps code s
 
 abbrev pub are_stubs : ℕ → List Comp → List ℕ → List EntryRec → List Stub → Bool
 are_stubs mechanism comps code entries stubs =

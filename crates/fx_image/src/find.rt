@@ -51,7 +51,7 @@ fn object_in(objects: &[Obj], address: u64, other: Found) -> Found
 }
 
 /// The stack whose low or high half has the address.
-fn stack_of(i: &Image, address: u64) -> Found
+pub(crate) fn stack_of(i: &Image, address: u64) -> Found
     requires { length i.now.compartments < 256 }
     ensures { result ≡ stack_at i.now address }
 {

@@ -2,6 +2,9 @@
 
 use crate::list::{Bytes, List, Name};
 
+/// The version that images are written in.
+pub const VERSION: u16 = 2;
+
 /// A compartment: its name, its range of the code, and its value of the PKRU register.
 #[derive(Debug, Drop)]
 pub struct Comp {

@@ -1,7 +1,7 @@
 //! Protection keys: the PKRU value of a compartment.
 
 ghost use Rattle.std.specs.Prelude.{◌≡◌, ◌==◌, if◌then◌else◌, ◌<◌};
-ghost use Rattle.fx_image.specs.Keys.{has_member, key_read, key_written, key_bits, pkru_of};
+ghost use Rattle.fx_image.specs.Keys.{is_keyed, has_member, key_read, key_written, key_bits, pkru_of};
 
 use crate::forms::Section;
 
@@ -78,4 +78,11 @@ pub fn pkru_of(sections: &[Section], scheduler: u8, compartment: u8) -> u32
         unit *= 4;
     }
     value as u32
+}
+
+/// Whether gates go by protection keys: under `light` and `full`.
+pub fn is_keyed(mechanism: u8) -> bool
+    ensures { result ≡ is_keyed mechanism }
+{
+    mechanism == 1 || mechanism == 2
 }

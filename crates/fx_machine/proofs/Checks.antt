@@ -1,5 +1,5 @@
 -- Accesses that nothing refuses.
-use Rattle.std.proofs.Common.{◌≡◌, ℕ, zero, suc, ◌+◌, ◌*◌, ◌/◌, ◌%◌, ◌^◌, ◌<◌, ◌≤◌, Bool, Option, None, Some, refl, sym, ap, ◌∙◌, subst, arith}
+use Rattle.std.proofs.Common.{◌≡◌, ◌≢◌, ℕ, zero, suc, ◌+◌, ◌-◌, ◌*◌, ◌%◌, ◌^◌, ◌<◌, ◌≤◌, Bool, Option, None, Some, refl, sym, ap, ◌∙◌, subst, arith}
 use Rattle.fx_vm_pages.specs.declared.entry.Entry.{Entry}
 use Rattle.fx_vm_pages.specs.declared.entry.Pkru.{Pkru}
 use Rattle.fx_vm_pages.specs.declared.access.Access.{Access}
@@ -59,3 +59,18 @@ module _ (entries : ℕ → Option Entry) (pkru : Pkru) (access : Access) where
   pub each_free : (a n k : ℕ) → a < 2 ^ 64 → access_check entries pkru access a n ≡ None → k < n → byte_refusal (entries (page_of ((a + k) % 2 ^ 64))) pkru access (is_register_form a n) ≡ None
   unfolding access_check
   each_free a n k lt e small = each_from (is_register_form a n) n a k lt e small
+
+  first_from : (form : Bool) (n a : ℕ) → 0 < n → refused_from entries pkru access form a n ≡ None → byte_refusal (entries (page_of a)) pkru access form ≡ None
+  first_from form zero a some e = absurd (omega arith)
+  first_from form (suc n) a some e = (split a (byte_refusal (entries (page_of a)) pkru access form) (refused_from entries pkru access form ((a + 1) % 2 ^ 64) n) e).0
+
+  pub first_free : (a n : ℕ) → 0 < n → access_check entries pkru access a n ≡ None → byte_refusal (entries (page_of a)) pkru access (is_register_form a n) ≡ None
+  unfolding access_check
+  first_free a n some e = first_from (is_register_form a n) n a some e
+
+  -- the next byte of an access, where the first isn't refused
+  pub after_byte : (form : Bool) (n a : ℕ) → n ≢ 0 → byte_refusal (entries (page_of a)) pkru access form ≡ None → refused_from entries pkru access form a n ≡ refused_from entries pkru access form ((a + 1) % 2 ^ 64) (n - 1)
+  after_byte form zero a some e = absurd (some refl)
+  after_byte form (suc n) a some e =
+      let less : suc n - 1 ≡ n = omega arith in
+      ap (λ x. refused_or a x (refused_from entries pkru access form ((a + 1) % 2 ^ 64) n)) e ∙ ap (refused_from entries pkru access form ((a + 1) % 2 ^ 64)) (sym less)

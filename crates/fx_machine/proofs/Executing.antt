@@ -1,5 +1,5 @@
 -- What one turn of an instruction that stands at RIP does, where there is one address space.
-use Rattle.std.proofs.Common.{◌≡◌, ◌≢◌, ℕ, ◌+◌, ◌-◌, ◌*◌, ◌/◌, ◌%◌, ◌^◌, ◌<◌, ◌≤◌, Bool, true, false, List, [], ◌∷◌, Option, None, Some, refl, sym, ap, ◌∙◌, subst, arith}
+use Rattle.std.proofs.Common.{◌≡◌, ◌≢◌, ℕ, ◌+◌, ◌/◌, ◌%◌, ◌^◌, ◌<◌, ◌≤◌, true, false, [], ◌∷◌, Option, None, Some, ap, ◌∙◌, arith}
 use Rattle.fx_outcomes.specs.Runs.{Goes}
 use Rattle.fx_base.specs.declared.device_op.DeviceOp.{DeviceOp}
 use Rattle.fx_x64_forms.specs.Numbers.{width_bytes}
@@ -12,12 +12,11 @@ use Rattle.fx_cpu.specs.Registers.{past}
 use Rattle.fx_cpu.specs.Memory.{stored, word_at}
 use Rattle.fx_cpu.specs.Does.{need, finish}
 use Rattle.fx_cpu.specs.declared.registers.Regs.{Regs}
-use Rattle.fx_cpu.specs.declared.need.Need.{Need}
 use Rattle.fx_cpu.specs.declared.need.Need.TheVariants as needs
 use Rattle.fx_image.specs.Layout.{stack_low, stack_bytes, stack_count}
 use Rattle.fx_image.specs.declared.forms.Image.{Image}
 use Rattle.fx_machine.specs.Layout.{page_entry, is_ept, owner_of, private_key}
-use Rattle.fx_machine.specs.Moves.{World, Move, perform, perform_need, checked, read, write, operation, device_at}
+use Rattle.fx_machine.specs.Moves.{World, perform, perform_need, checked, read, write, device_at}
 use Rattle.fx_machine.proofs.Pages.{Fits}
 use Rattle.fx_machine.proofs.Regions.{register_address, device_register, use_register, low_key, device_stack, use_stack}
 

@@ -1,6 +1,6 @@
 -- Which entry each region's pages have.
-use Rattle.std.proofs.Common.{◌≡◌, ◌≢◌, ℕ, ◌+◌, ◌*◌, ◌-◌, ◌/◌, ◌%◌, ◌<◌, ◌≤◌, ◌⊎◌, inl, inr, Bool, true, false, Option, None, Some, List, [], ◌∷◌, length, refl, sym, ap, ◌∙◌, subst, arith, cond}
-use Rattle.std.specs.Prelude.{nat_le, nat_lt, ◌==◌, ◌&&◌, slice_get, not, nat_eq, sum_by, IsTrue}
+use Rattle.std.proofs.Common.{◌≡◌, ◌≢◌, ℕ, ◌+◌, ◌*◌, ◌-◌, ◌/◌, ◌%◌, ◌<◌, ◌≤◌, ◌⊎◌, inl, inr, Bool, true, false, Option, None, Some, List, [], ◌∷◌, length, refl, ap, ◌∙◌, subst, arith, cond}
+use Rattle.std.specs.Prelude.{nat_le, nat_lt, ◌==◌, ◌&&◌, nat_eq, sum_by}
 use Rattle.std.proofs.lemmas.Bool.Decides.{nat_tests}
 use Rattle.std.proofs.lemmas.Bool.{cond-false}
 use Rattle.std.proofs.lemmas.List.Sums.{sum_by-cons}
@@ -61,7 +61,7 @@ no_literals image page f from =
     let a : nat_le 0x600 page ≡ true = le_true 0x600 page (omega arith) in
     simp (a, b)
 
-no_mailbox : (image : Image) (space page : ℕ) → is_ept image ≡ false → mailbox_entry image space page ≡ None
+pub no_mailbox : (image : Image) (space page : ℕ) → is_ept image ≡ false → mailbox_entry image space page ≡ None
 no_mailbox image space page h = cases (nat_le 0xe000 page) refl
   where
     cases : (t : Bool) → nat_le 0xe000 page ≡ t → mailbox_entry image space page ≡ None
@@ -71,7 +71,7 @@ no_mailbox image space page h = cases (nat_le 0xe000 page) refl
 no_thread : (image : Image) (space page : ℕ) → page ≢ 0xf000 → thread_entry image space page ≡ None
 no_thread image space page h = let e = eq_false page 0xf000 h in simp e
 
-no_device : (image : Image) (space page : ℕ) → 0xf110 ≤ page → device_entry image space page ≡ None
+pub no_device : (image : Image) (space page : ℕ) → 0xf110 ≤ page → device_entry image space page ≡ None
 no_device image space page h =
     let a = le_true 0xf100 page (omega arith) in
     let b = lt_false page 0xf110 h in
@@ -80,17 +80,17 @@ no_device image space page h =
 after_four : {A : Type 0} (a b c d : Option A) (rest : List (Option A)) → a ≡ None → b ≡ None → c ≡ None → d ≡ None → first_of (a ∷ b ∷ c ∷ d ∷ rest) ≡ first_of rest
 after_four a b c d rest p q r s = rw (p, q, r, s) refl
 
-after_two : {A : Type 0} (a b : Option A) (rest : List (Option A)) → a ≡ None → b ≡ None → first_of (a ∷ b ∷ rest) ≡ first_of rest
+pub after_two : {A : Type 0} (a b : Option A) (rest : List (Option A)) → a ≡ None → b ≡ None → first_of (a ∷ b ∷ rest) ≡ first_of rest
 after_two a b rest p q = rw (p, q) refl
 
 here : {A : Type 0} (a : Option A) (x : A) (rest : List (Option A)) → a ≡ Some x → first_of (a ∷ rest) ≡ Some x
 here a x rest p = rw p refl
 
-last_of : {A : Type 0} (a : Option A) → first_of (a ∷ []) ≡ a
+pub last_of : {A : Type 0} (a : Option A) → first_of (a ∷ []) ≡ a
 last_of None = refl
 last_of (Some x) = refl
 
-first_four : (image : Image) (space page : ℕ) → Fits image → is_ept image ≡ false → 0xf001 ≤ page → page_entry image space page ≡ first_of (device_entry image space page ∷ section_entry (is_ept image) space page image.sections ∷ stack_entry image space page ∷ [])
+pub first_four : (image : Image) (space page : ℕ) → Fits image → is_ept image ≡ false → 0xf001 ≤ page → page_entry image space page ≡ first_of (device_entry image space page ∷ section_entry (is_ept image) space page image.sections ∷ stack_entry image space page ∷ [])
 unfolding page_entry
 first_four image space page f h from =
     let ne : page ≢ 0xf000 = λ e. omega (arith, e) in

@@ -1,15 +1,14 @@
 -- Accesses that each region permits, where there is one address space.
-use Rattle.std.proofs.Common.{◌≡◌, ◌≢◌, ℕ, ◌+◌, ◌*◌, ◌-◌, ◌/◌, ◌%◌, ◌^◌, ◌<◌, ◌≤◌, Bool, true, false, Option, None, Some, List, length, refl, sym, ap, ◌∙◌, subst, arith}
+use Rattle.std.proofs.Common.{◌≡◌, ◌≢◌, ℕ, ◌+◌, ◌*◌, ◌-◌, ◌%◌, ◌^◌, ◌<◌, ◌≤◌, Bool, true, false, None, Some, length, refl, sym, ap, ◌∙◌, subst, arith}
 use Rattle.std.specs.Prelude.{if◌then◌else◌, nat_eq, ◌&&◌, not}
 use Rattle.std.proofs.Math.Nat.{mul_left_comm}
 use Rattle.fx_vm_pages.specs.Access.{byte_refusal, is_register_form, is_locked, page_of, access_check}
-use Rattle.fx_vm_pages.specs.declared.entry.Entry.{Entry}
 use Rattle.fx_vm_pages.specs.declared.entry.Pkru.{Pkru}
 use Rattle.fx_vm_pages.specs.declared.access.Access.{Access}
 use Rattle.fx_vm_pages.specs.declared.access.Access.TheVariants.{Read, Write, Fetch}
 use Rattle.fx_image.specs.Layout.{code_start, has_halves, stack_low, stack_bytes, stack_span, stack_count}
 use Rattle.fx_image.specs.declared.forms.Image.{Image}
-use Rattle.fx_machine.specs.Layout.{page_entry, mapped, is_ept, maps_code, owner_of, private_key, common_key, low_half, stack_compartment}
+use Rattle.fx_machine.specs.Layout.{page_entry, mapped, is_ept, owner_of, private_key, common_key, low_half, stack_compartment}
 use Rattle.fx_machine.specs.Moves.{device_at}
 use Rattle.fx_machine.proofs.Checks.{check_page, check_region}
 use Rattle.fx_machine.proofs.Pages.{Fits, code_page, maps_all, device_page, stack_low_page}

@@ -1,8 +1,8 @@
 -- Code that stands in memory: it is fetched, and it stays.
-use Rattle.std.proofs.Common.{◌≡◌, ◌≢◌, ℕ, ◌+◌, ◌-◌, ◌*◌, ◌/◌, ◌%◌, ◌^◌, ◌<◌, ◌≤◌, ◌⊎◌, inl, inr, Bool, true, false, List, [], ◌∷◌, ◌++◌, length, get_or, Option, None, Some, refl, sym, ap, ◌∙◌, subst, arith, cond, lit≤}
+use Rattle.std.proofs.Common.{◌≡◌, ℕ, ◌+◌, ◌-◌, ◌%◌, ◌^◌, ◌<◌, ◌≤◌, Bool, true, false, List, [], ◌∷◌, length, Option, None, Some, refl, sym, ap, ◌∙◌, subst, arith, cond, lit≤}
 use Rattle.std.specs.Prelude.{slice_index, nat_lt, ◌&&◌}
 use Rattle.std.proofs.lemmas.Bool.Decides.{nat_tests}
-use Rattle.fx_outcomes.specs.Runs.{Next, Goes, Stops}
+use Rattle.fx_outcomes.specs.Runs.{Goes}
 use Rattle.fx_base.specs.declared.device_op.DeviceOp.{DeviceOp}
 use Rattle.fx_x64_forms.specs.Numbers.{width_bytes}
 use Rattle.fx_x64_forms.specs.declared.operand.Width.{Width}
@@ -10,7 +10,6 @@ use Rattle.fx_x64_forms.specs.declared.operand.Width.TheVariants.{W8, W16, W32, 
 use Rattle.fx_x64_forms.specs.declared.inst.Inst.{Inst}
 use Rattle.fx_x64_code.specs.Spelling.{spelling, IsRow}
 use Rattle.fx_vm_pages.specs.Access.{access_check, page_of, is_register_form}
-use Rattle.fx_vm_pages.specs.declared.entry.Entry.{Entry}
 use Rattle.fx_vm_pages.specs.declared.entry.Pkru.{Pkru}
 use Rattle.fx_vm_pages.specs.declared.access.Access.{Access}
 use Rattle.fx_vm_pages.specs.declared.access.Access.TheVariants.{Read, Write, Fetch}
@@ -25,7 +24,6 @@ use Rattle.fx_image.specs.Layout.{code_start}
 use Rattle.fx_image.specs.declared.forms.Image.{Image}
 use Rattle.fx_machine.specs.Layout.{page_entry, is_ept}
 use Rattle.fx_machine.specs.Moves.{World, Move, move, move_by, perform, perform_need, operation, checked, read, read_device, write, device_at}
-use Rattle.fx_machine.specs.declared.stop.Stop.{Stop}
 use Rattle.fx_machine.proofs.Checks.{each_free}
 use Rattle.fx_machine.proofs.Pages.{Fits, code_unwritable}
 use Rattle.fx_machine.proofs.Regions.{fetch_code}

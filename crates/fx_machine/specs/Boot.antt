@@ -1,5 +1,5 @@
 -- What memory and registers hold at boot.
-use Rattle.std.specs.Prelude.{ℕ, ◌+◌, ◌*◌, ◌-◌, ◌/◌, ◌%◌, ◌^◌, false, ◌==◌, ◌&&◌, nat_le, nat_lt, if◌then◌else◌, List, [], ◌∷◌, length, Option, Some, None, slice_get, slice_index, unwrap_or}
+use Rattle.std.specs.Prelude.{ℕ, ◌+◌, ◌-◌, ◌/◌, ◌%◌, ◌^◌, Bool, false, ◌&&◌, nat_le, nat_lt, if◌then◌else◌, List, [], ◌∷◌, length, Option, Some, None, slice_get, unwrap_or}
 use Rattle.fx_image.specs.declared.forms.Image.{Image}
 use Rattle.fx_image.specs.declared.forms.Comp.{Comp}
 use Rattle.fx_image.specs.declared.forms.Obj.{Obj}
@@ -12,11 +12,15 @@ use Rattle.fx_machine.specs.Layout.{first_of, is_ept}
 abbrev pub byte_from : List ℕ → ℕ → ℕ → Option ℕ
 byte_from bytes start address = if nat_le start address then slice_get bytes (address - start) else None
 
--- The byte of the object that has an initial byte at an address.
+-- Whether an object has an initial byte at an address.
+abbrev pub covers : Obj → ℕ → Bool
+covers object address = nat_le object.address address && nat_lt address (object.address + length object.initial)
+
+-- The byte of the first object that has one there.
 abbrev pub object_byte : List Obj → ℕ → Option ℕ
 object_byte [] address = None
 object_byte (object ∷ rest) address =
-    if nat_le object.address address && nat_lt address (object.address + length object.initial) then byte_from object.initial object.address address
+    if covers object address then byte_from object.initial object.address address
     else object_byte rest address
 
 -- The word that an idle stack returns to: the abort stub's address, 32 bytes under the end of its

@@ -1,5 +1,5 @@
 -- One turn of a vCPU: it executes one whole instruction.
-use Rattle.std.specs.Prelude.{ℕ, zero, suc, ◌+◌, ◌-◌, ◌*◌, ◌/◌, ◌%◌, ◌^◌, Bool, true, false, ◌==◌, if◌then◌else◌, List, [], ◌∷◌, ◌++◌, length, Option, Some, None}
+use Rattle.std.specs.Prelude.{ℕ, zero, suc, ◌+◌, ◌-◌, ◌/◌, ◌%◌, Bool, true, false, ◌==◌, if◌then◌else◌, List, [], ◌∷◌, ◌++◌, length, Option, Some, None}
 use Rattle.std.specs.Int.{w64, cast_signed}
 use Rattle.fx_outcomes.specs.Runs.{Next, Goes, Stops}
 use Rattle.fx_base.specs.declared.device_op.DeviceOp.{DeviceOp}
@@ -27,6 +27,8 @@ use Rattle.fx_image.specs.Keys.{is_keyed}
 use Rattle.fx_image.specs.declared.forms.Image.{Image}
 use Rattle.fx_image.specs.declared.forms.Comp.{Comp}
 use Rattle.fx_machine.specs.Layout.{page_entry, is_ept}
+use Rattle.fx_machine.specs.declared.fetched.Fetched.{Fetched}
+use Rattle.fx_machine.specs.declared.fetched.Fetched.TheVariants.{Found, RefusedAt, Unspelled}
 use Rattle.fx_machine.specs.declared.stop.Stop.{Stop}
 use Rattle.fx_machine.specs.declared.stop.Stop.TheVariants.{Exit, Page, Invalid, Protection, Divide, StackFull, BadThread, ThreadsFull, Aborted}
 
@@ -71,11 +73,6 @@ abbrev pub refused : Image → ℕ → Pkru → Access → ℕ × Refusal → St
 refused image vcpu pkru access first = Page vcpu (domain_of image vcpu pkru) first.0 access first.1
 
 -- ---- fetching
-
-pub data Fetched : Type 0 where
-  Found : (inst : Inst) (length : ℕ) → Fetched
-  RefusedAt : (first : ℕ × Refusal) → Fetched
-  Unspelled : Fetched
 
 abbrev pub unless_refused : Option (ℕ × Refusal) → Fetched → Fetched
 unless_refused None rest = rest

@@ -8,4 +8,12 @@
 //! the layout, the devices and the stops are this project's own.
 #![tactic(auto)]
 
+pub mod boot;
+pub mod check;
+pub mod effect;
+pub mod fetch;
+pub mod fetched;
+pub mod layout;
+pub mod machine;
+pub mod memory;
 pub mod stop;

@@ -10,7 +10,6 @@ pub mod products;
 pub mod quotients;
 pub mod shifts;
 pub mod sums;
-pub mod words;
-
 #[cfg(test)]
 mod tests;
+pub mod words;

@@ -10,7 +10,9 @@ use fx_x64_forms::inst::ShiftOp;
 use fx_x64_forms::operand::Width::{self, W8, W16, W32, W64};
 
 const TOP: u64 = 0x8000_0000_0000_0000;
+
 const MOST: u64 = 0x7fff_ffff_ffff_ffff;
+
 const ALL: u64 = 0xffff_ffff_ffff_ffff;
 
 /// The flags that a text names: `c` carry, `z` zero, `s` sign, `o` overflow.

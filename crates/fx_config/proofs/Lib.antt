@@ -1,0 +1,4 @@
+pub mod Differ
+pub mod Loops
+pub mod Texts
+pub mod Views

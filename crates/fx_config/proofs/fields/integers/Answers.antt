@@ -1,0 +1,25 @@
+use Rattle.std.proofs.Common.{rules, w64, ◌<◌, ◌≤◌, length, arith, ◌∙◌}
+use Rattle.std.proofs.lemmas.Int.{to_z-of_z}
+use mir.Val.{SFits}
+use Rattle.std.proofs.lemmas.Result.{err_from_is_err_and}
+use Rattle.toml.specs.View.{view}
+use Rattle.fx_config.specs.Document.{integer_of}
+use Rattle.fx_config.proofs.Loops.{ReadTo-next, ReadTo-stop, ReadTo-end, array_each}
+use Rattle.fx_config.proofs.fields.integers.Goals as goal
+
+pub returns-in_err-next : goal.returns-in_err-next
+returns-in_err-next c =
+    let p = err_from_is_err_and c.from_residual-in_err-next.result c.from_residual-in_err-next.ensures.1 in
+    let within : c.loop-element.element-index < length c.in_ok-values.values.now = omega arith in
+    rw (p.1, p.2) (λ h. array_each view integer_of _ c.in_ok-values.values.now c.in_ok-values.ensures ∙ ReadTo-stop _ _ _ c.element-item.result _ _ within c.element-item.is (c.in_err-next.ensures h) c.loop-element.invariant)
+
+pub loop-element-preserved : goal.loop-element-preserved
+loop-element-preserved c =
+    let within : c.loop-element.element-index < length c.in_ok-values.values.now = omega arith in
+    let fits : SFits w64 c.in_ok-next.next = search rules in
+    rw (c.in_ok-push.ensures.items, to_z-of_z w64 c.in_ok-next.next fits) (ReadTo-next _ _ _ c.element-item.result _ _ within c.element-item.is c.in_ok-next.ensures c.loop-element.invariant)
+
+pub returns : goal.returns
+returns c =
+    let past : length c.in_ok-values.values.now ≤ c.loop-element.element-index = omega arith in
+    array_each view integer_of _ c.in_ok-values.values.now c.in_ok-values.ensures ∙ ReadTo-end _ _ _ _ past c.loop-element.invariant

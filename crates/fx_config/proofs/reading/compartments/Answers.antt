@@ -1,0 +1,21 @@
+use Rattle.std.proofs.Common.{◌<◌, ◌≤◌, length, arith, ◌∙◌}
+use Rattle.std.proofs.lemmas.Result.{err_from_is_err_and}
+use Rattle.fx_config.specs.Reading.{compartment_of}
+use Rattle.fx_config.proofs.Loops.{ReadTo-next, ReadTo-stop, ReadTo-end, read_each-map}
+use Rattle.fx_config.proofs.reading.compartments.Goals as goal
+
+pub returns-in_err-next-clause-exact : goal.returns-in_err-next-clause-exact
+returns-in_err-next-clause-exact c =
+    let p = err_from_is_err_and c.from_residual.result c.from_residual.ensures.1 in
+    let within : c.loop-table.table-index < length c.args.tables.now = omega arith in
+    rw (p.1, p.2) (λ h. read_each-map _ compartment_of c.args.tables.now ∙ ReadTo-stop _ _ _ c.table-item.result _ _ within c.table-item.is (c.in_err-next.ensures h) c.loop-table.invariant.0)
+
+pub loop-table-preserved : goal.loop-table-preserved
+loop-table-preserved c =
+    let within : c.loop-table.table-index < length c.args.tables.now = omega arith in
+    (rw c.in_ok-push.ensures.items (ReadTo-next _ _ _ c.table-item.result _ _ within c.table-item.is c.in_ok-next.ensures c.loop-table.invariant.0), omega (arith, c.in_ok-push.ensures.len, c.loop-table.invariant.1))
+
+pub returns-clause-exact : goal.returns-clause-exact
+returns-clause-exact c =
+    let past : length c.args.tables.now ≤ c.loop-table.table-index = omega arith in
+    read_each-map _ compartment_of c.args.tables.now ∙ ReadTo-end _ _ _ _ past c.loop-table.invariant.0

@@ -1,0 +1,99 @@
+//! The rules of the objects.
+
+ghost use Rattle.std.specs.Prelude.{◌≡◌};
+ghost use Rattle.std.specs.Option.{option_copied};
+ghost use Rattle.std.specs.List.{list_any, list_all};
+ghost use Rattle.std.specs.Str.{bytes_eq};
+ghost use Rattle.fx_image.specs.Rules.{is_distinct_by, is_inside, is_trimmed, is_object, are_apart, are_objects};
+
+use crate::forms::{Obj, Section};
+use crate::names::is_object_name;
+
+/// Whether the object lies in the section's pages.
+fn is_inside(section: Option<&Section>, o: &Obj) -> bool
+    ensures { result ≡ is_inside (option_copied section.entry) o.now }
+{
+    match section {
+        None => false,
+        Some(s) => {
+            let start = 4096 * u64::from(s.page);
+            let end = 4096 * (u64::from(s.page) + u64::from(s.pages));
+            start <= o.address && o.address <= end && u64::from(o.size) <= end - o.address
+        }
+    }
+}
+
+/// Whether the last of the bytes, if there is one, isn't 0.
+fn is_trimmed(bytes: &[u8]) -> bool
+    ensures { result ≡ is_trimmed bytes.now }
+{
+    bytes.is_empty() || 0 < bytes[bytes.len() - 1]
+}
+
+fn is_object(sections: &[Section], o: &Obj) -> bool
+    ensures { result ≡ is_object sections.now o.now }
+{
+    is_object_name(o.name.as_slice())
+        && is_inside(sections.get(usize::from(o.section)), o)
+        && o.initial.len() as u64 <= u64::from(o.size)
+        && is_trimmed(o.initial.as_slice())
+}
+
+fn are_all_objects(sections: &[Section], objects: &[Obj]) -> bool
+    ensures { result ≡ list_all (is_object sections.now) objects.now }
+{
+    for o in objects {
+        if !is_object(sections, o) {
+            return false;
+        }
+    }
+    true
+}
+
+/// Whether each starts at least 16 bytes past the former's end.
+fn are_apart(objects: &[Obj]) -> bool
+    ensures { result ≡ are_apart 0 objects.now }
+{
+    let mut least = 0;
+    for o in objects {
+        if u128::from(o.address) < least {
+            return false;
+        }
+        least = u128::from(o.address) + u128::from(o.size) + 16;
+    }
+    true
+}
+
+/// Whether an object has this name.
+fn is_taken(objects: &[Obj], name: &[u8]) -> bool
+    ensures { result ≡ list_any (λ o. bytes_eq name.now o.name) objects.now }
+{
+    for o in objects {
+        if name == o.name.as_slice() {
+            return true;
+        }
+    }
+    false
+}
+
+fn have_distinct_names(objects: &[Obj]) -> bool
+    ensures { result ≡ is_distinct_by (λ a b. bytes_eq a.name b.name) objects.now }
+{
+    for (k, o) in objects.iter().enumerate() {
+        if is_taken(&objects[k + 1..], o.name.as_slice()) {
+            return false;
+        }
+    }
+    true
+}
+
+/// Whether the objects, 32,016 at most, lie in their sections, ascending and apart, under names of
+/// their own.
+pub(crate) fn are_objects(sections: &[Section], objects: &[Obj]) -> bool
+    ensures { result ≡ are_objects sections.now objects.now }
+{
+    objects.len() <= 32016
+        && are_all_objects(sections, objects)
+        && are_apart(objects)
+        && have_distinct_names(objects)
+}
