@@ -18,8 +18,10 @@ use Rattle.fx_x64_forms.specs.Numbers.{width_bytes}
 use Rattle.fx_machine.specs.Layout.{page_entry}
 use Rattle.fx_vm_pages.specs.declared.access.Refusal.{Refusal}
 use Rattle.fx_image.specs.declared.forms.Image.{Image}
-use Rattle.fx_machine.specs.Moves.{World, Move, Fetched, Found, RefusedAt, Unspelled, device_at, checked, read, read_device, write, perform_need, move_by, move}
+use Rattle.fx_machine.specs.Moves.{World, Move, device_at, checked, read, read_device, write, perform_need, move_by, move}
 use Rattle.fx_machine.specs.declared.stop.Stop.{Stop}
+use Rattle.fx_machine.specs.declared.fetched.Fetched.{Fetched}
+use Rattle.fx_machine.specs.declared.fetched.Fetched.TheVariants.{Found, RefusedAt, Unspelled}
 use Rattle.fx_run_core.specs.Ran.{AreStores}
 
 -- a move that makes stores alone leaves the answers, and makes one at most; a stop makes none
@@ -47,10 +49,10 @@ keeps_write i len r w width address value (Some device) = λ stores. (refl, omeg
 
 keeps_need : (image : Image) (vcpu : ℕ) (asked : Need) (i : Inst) (len : ℕ) (r : Regs) (w : World) → Keeps w (perform_need image vcpu asked i len r w)
 keeps_need image vcpu needs.Quiet i len r w = λ stores. (refl, omega arith)
-keeps_need image vcpu (needs.Reads width address) i len r w = 
+keeps_need image vcpu (needs.Reads width address) i len r w =
     let device = device_at (page_entry image vcpu (page_of address)) address in
     keeps_checked w image vcpu r.pkru Read (access_check (page_entry image vcpu) r.pkru Read address (width_bytes width)) (read i len r w width address device) (keeps_read i len r w width address device)
-keeps_need image vcpu (needs.Writes width address value) i len r w = 
+keeps_need image vcpu (needs.Writes width address value) i len r w =
     let device = device_at (page_entry image vcpu (page_of address)) address in
     keeps_checked w image vcpu r.pkru Write (access_check (page_entry image vcpu) r.pkru Write address (width_bytes width)) (write i len r w width address value device) (keeps_write i len r w width address value device)
 keeps_need image vcpu (needs.Stops trap) i len r w = refl

@@ -4,7 +4,7 @@ use Rattle.std.proofs.lemmas.List.{append-nil}
 use Rattle.std.proofs.Math.Seq.{take-append_seam}
 use Rattle.fx_base.specs.Faults.{Rose}
 use Rattle.fx_base.specs.Told.{Told}
-use Rattle.fx_run_core.specs.Turned.{Running}
+use Rattle.fx_machine.specs.Turns.{Running}
 use Rattle.fx_run_core.specs.Ran.{Reached, outputs, run_of, Gained, GainedFront, FollowsFront, Follows, EndsIn, RanTo}
 use Rattle.fx_run_core.specs.declared.Outcome.{Outcome}
 use Rattle.fx_run_core.specs.declared.Outcome.TheVariants.{Stopped, Spent, WriteFault, OutOfMemory}
@@ -46,16 +46,21 @@ rose_since first before now h rose = grind (arith, rose)
 front : (m : Running) (budget : ℕ) (start taken gained : Option (List ℕ)) → Told (Gained (outputs m.made)) start taken → Told (FollowsFront m budget) taken gained → Told (GainedFront (outputs (run_of m.image budget).made)) start gained
 front m budget start taken gained put more =
     told_join (Gained (outputs m.made)) (FollowsFront m budget) (GainedFront (outputs (run_of m.image budget).made))
-      (λ x y z p q. (length (outputs m.made ++ q.0),
-        q.3 ∙ ap (λ t. t ++ q.0) p ∙ append_assoc x (outputs m.made) q.0 ∙ ap (λ t. x ++ t) (sym (take-append_seam (outputs m.made ++ q.0) q.1) ∙ ap (take (length (outputs m.made ++ q.0))) (sym q.2))))
-      start taken gained put more
+    (λ x y z p q. (
+      length (outputs m.made ++ q.0),
+      q.3 ∙ ap (λ t. t ++ q.0) p ∙ append_assoc x (outputs m.made) q.0 ∙ ap (λ t. x ++ t) (sym (take-append_seam (outputs m.made ++ q.0) q.1) ∙ ap (take (length (outputs m.made ++ q.0))) (sym q.2)),
+    ))
+    start taken gained put more
 
 -- the whole run, from a moment and the turn that ended it
 pub ran_from : (m : Running) (budget made : ℕ) (outcome : Outcome) (start taken gained : Option (List ℕ)) (first before now : ℕ)
     → EndsIn m budget made outcome taken gained before now → Told (Gained (outputs m.made)) start taken → first ≤ before → RanTo m.image budget outcome made start gained first now
-ran_from m budget made (Stopped stop) start taken gained first before now ends put h =
-    (ends.0, ends.1, told_join (Gained (outputs m.made)) (Gained []) (Gained (outputs (run_of m.image budget).made))
-      (λ x y z p q. q ∙ append-nil y ∙ p ∙ ap (λ out. x ++ out) ends.2) start taken gained put ends.3)
+ran_from m budget made (Stopped stop) start taken gained first before now ends put h = (
+  ends.0,
+  ends.1,
+  told_join (Gained (outputs m.made)) (Gained []) (Gained (outputs (run_of m.image budget).made))
+      (λ x y z p q. q ∙ append-nil y ∙ p ∙ ap (λ out. x ++ out) ends.2) start taken gained put ends.3,
+)
 ran_from m budget made Spent start taken gained first before now ends put h = absurd ends
 ran_from m budget made WriteFault start taken gained first before now ends put h = (rose_since first before now h ends.0, front m budget start taken gained put ends.1)
 ran_from m budget made OutOfMemory start taken gained first before now ends put h = front m budget start taken gained put ends

@@ -13,7 +13,7 @@ use Rattle.fx_image.specs.declared.forms.Image.{Image}
 use Rattle.fx_machine.specs.declared.stop.Stop.{Stop}
 use Rattle.fx_machine.specs.declared.stop.Turn.{Turn}
 use Rattle.fx_machine.specs.declared.stop.Turn.TheVariants as answers
-use Rattle.fx_run_core.specs.Turned.{Running, Turned, TurnedTo, answer_to, went, state_of, booted}
+use Rattle.fx_machine.specs.Turns.{Running, Turned, TurnedTo, answer_to, went, state_of, booted}
 use Rattle.fx_run_core.specs.Ran.{AreStores, LoadsNothing, counting, ones, output_of, outputs, run_of, turns_of, Reached}
 use Rattle.fx_run_core.proofs.Answers.{TurnKeeps, keeps_turn}
 
@@ -94,14 +94,14 @@ reached_next m made budget left o n h more is same =
     let state = same_state m o n same in
     let counted : made + suc (turns (turn (move m.image)) (vcpus m.image) (counting (made + 1) left) n) ≡ turns_of m.image budget = unrolled_turns m made budget left (Goes o n) h more is in
     let here : turns (turn (move m.image)) (vcpus m.image) (counting (made + 1) (budget - (made + 1))) (state_of (went m o n) ones) ≡ turns (turn (move m.image)) (vcpus m.image) (counting (made + 1) left) n =
-        ap (λ k. turns (turn (move m.image)) (vcpus m.image) (counting (made + 1) k) (state_of (went m o n) ones)) last ∙ ap (turns (turn (move m.image)) (vcpus m.image) (counting (made + 1) left)) state in
+    ap (λ k. turns (turn (move m.image)) (vcpus m.image) (counting (made + 1) k) (state_of (went m o n) ones)) last ∙ ap (turns (turn (move m.image)) (vcpus m.image) (counting (made + 1) left)) state in
     record {
       going = h.going;
       run_is =
-        ap (λ k. before (m.made ++ o) (run (turn (move m.image)) (vcpus m.image) (counting (made + 1) k) (state_of (went m o n) ones))) last
-        ∙ ap (λ s. before (m.made ++ o) (go_on m made left s)) state
-        ∙ before-append m.made o (go_on m made left n)
-        ∙ unrolled m made budget left (Goes o n) h more is;
+          ap (λ k. before (m.made ++ o) (run (turn (move m.image)) (vcpus m.image) (counting (made + 1) k) (state_of (went m o n) ones))) last
+          ∙ ap (λ s. before (m.made ++ o) (go_on m made left s)) state
+          ∙ before-append m.made o (go_on m made left n)
+          ∙ unrolled m made budget left (Goes o n) h more is;
       turns_is = omega (arith, counted, here);
     }
 
@@ -111,7 +111,7 @@ turn_keeps : (m : Running) (made budget left : ℕ) (o : List DeviceOp) (n : Man
 unfolding run_of
 turn_keeps m made budget left o n h loads more is =
     let all : AreStores (m.made ++ (o ++ (go_on m made left n).made)) =
-        subst (λ (x : Outcome DeviceOp Stop). AreStores x.made) (sym (unrolled m made budget left (Goes o n) h more is)) (loads (counting 0 budget)) in
+    subst (λ (x : Outcome DeviceOp Stop). AreStores x.made) (sym (unrolled m made budget left (Goes o n) h more is)) (loads (counting 0 budget)) in
     let stores : AreStores o = (append_stores o (go_on m made left n).made (append_stores m.made (o ++ (go_on m made left n).made) all).1).0 in
     let kept : TurnKeeps (state_of m ones) (Goes o n) = subst (TurnKeeps (state_of m ones)) is (keeps_turn m.image (made % vcpus m.image) (state_of m ones)) in
     let k = kept stores in
@@ -125,8 +125,10 @@ stepped_goes : (m : Running) (made budget left : ℕ) (o : List DeviceOp) (n : M
 stepped_goes m made budget left o n h loads more is result after turned = by_said result turned (classify o k.0 k.2) where
   k : AreStores o × (n.world.answers ≡ ones) × (length o ≤ 1)
   k = turn_keeps m made budget left o n h loads more is
+
   next : Reached (went m o n) (made + 1) budget
   next = reached_next m made budget left o n h more is k.1
+
   by_said : (r : Turn) → TurnedTo m (Goes o n) r after → Said (answer_to o) (outputs o) → AfterTurn m made budget r after
   by_said answers.OutOfMemory t s = ap (λ (x : Running). x.image) t.1
   by_said answers.Went t (inl w) = subst (λ x. AfterTurn m made budget answers.Went x) (sym t.1) (next, refl, silent m o [] w.1 ∙ append-nil (outputs m.made))
@@ -139,8 +141,8 @@ stepped_goes m made budget left o n h loads more is result after turned = by_sai
   by_said (answers.Output b) t (inr w) =
       let same : answers.Output b ≡ answers.Output w.0 = t.0 ∙ w.1 in
       subst (λ x. AfterTurn m made budget (answers.Output b) x) (sym t.1) (next, refl, silent m o (b ∷ []) (w.2 ∙ ap (λ v. v ∷ []) (byte w.0 same))) where
-    byte : (v : ℕ) → answers.Output b ≡ answers.Output v → v ≡ b
-    byte v e = cc
+        byte : (v : ℕ) → answers.Output b ≡ answers.Output v → v ≡ b
+        byte v e = cc
   by_said answers.Input t (inl w) = apart (t.0 ∙ w.0) where
     apart : answers.Input ≡ answers.Went → ⊥
     apart e = cc
@@ -164,20 +166,24 @@ stepped_stops : (m : Running) (made budget left : ℕ) (o : List DeviceOp) (stop
     → (result : Turn) (after : Running) → (result ≡ answers.Stopped stop) × (after ≡ record m { stop = Some stop }) → AfterTurn m made budget result after
 stepped_stops m made budget left o stop h more is result after turned =
     subst (λ r. AfterTurn m made budget r after) (sym turned.0)
-      (sym (ap (λ (x : Outcome DeviceOp Stop). x.finish) whole), omega (arith, counted), out, ap (λ (x : Running). x.image) turned.1) where
-  whole : before m.made (act (Stops o stop) (go_on m made left)) ≡ run_of m.image budget
-  whole = unrolled m made budget left (Stops o stop) h more is
-  counted : made + 1 ≡ turns_of m.image budget
-  counted = unrolled_turns m made budget left (Stops o stop) h more is
-  none : o ≡ []
-  none = subst (TurnKeeps (state_of m ones)) is (keeps_turn m.image (made % vcpus m.image) (state_of m ones))
-  out : outputs m.made ≡ outputs (run_of m.image budget).made
-  out = ap outputs (sym (append-nil m.made) ∙ ap (λ p. m.made ++ p) (sym none)) ∙ ap (λ (x : Outcome DeviceOp Stop). outputs x.made) whole
+    (sym (ap (λ (x : Outcome DeviceOp Stop). x.finish) whole), omega (arith, counted), out, ap (λ (x : Running). x.image) turned.1) where
+      whole : before m.made (act (Stops o stop) (go_on m made left)) ≡ run_of m.image budget
+      whole = unrolled m made budget left (Stops o stop) h more is
+
+      counted : made + 1 ≡ turns_of m.image budget
+      counted = unrolled_turns m made budget left (Stops o stop) h more is
+
+      none : o ≡ []
+      none = subst (TurnKeeps (state_of m ones)) is (keeps_turn m.image (made % vcpus m.image) (state_of m ones))
+
+      out : outputs m.made ≡ outputs (run_of m.image budget).made
+      out = ap outputs (sym (append-nil m.made) ∙ ap (λ p. m.made ++ p) (sym none)) ∙ ap (λ (x : Outcome DeviceOp Stop). outputs x.made) whole
 
 pub stepped : (m : Running) (made budget : ℕ) → Reached m made budget → made < budget → LoadsNothing m.image → (result : Turn) (after : Running) → Turned m made result after → AfterTurn m made budget result after
 stepped m made budget h left loads result after turned = by_next (next_of m made) refl (MatchOption-at_none _ _ h.going turned) where
   more : budget - made ≡ suc (budget - made - 1)
   more = omega arith
+
   by_next : (x : Next DeviceOp (Many Regs World) Stop) → next_of m made ≡ x → TurnedTo m x result after → AfterTurn m made budget result after
   by_next (Goes o n) is t = stepped_goes m made budget (budget - made - 1) o n h loads more is result after t
   by_next (Stops o stop) is t = stepped_stops m made budget (budget - made - 1) o stop h more is result after t

@@ -12,7 +12,8 @@ use Rattle.fx_machine.specs.Boot.{vcpus}
 use Rattle.fx_machine.specs.Moves.{move}
 use Rattle.fx_machine.specs.Running.{run_image, image_turns}
 use Rattle.fx_machine.specs.declared.stop.Stop.{Stop}
-use Rattle.fx_run_core.specs.Turned.{Running, state_of, all_ones}
+use Rattle.fx_machine.specs.Turns.{Running, state_of}
+use Rattle.fx_machine.specs.Effects.{all_ones}
 use Rattle.fx_run_core.specs.declared.Outcome.{Outcome}
 use Rattle.fx_run_core.specs.declared.Outcome.TheVariants.{Stopped, Spent, WriteFault, OutOfMemory}
 

@@ -3,10 +3,11 @@
 
 ghost use Rattle.std.specs.Prelude.{◌≡◌, ℕ, ◌≤◌, ◌<◌, ◌+◌, IfNone, IfSome};
 ghost use Rattle.fx_base.specs.Told.{Told};
-ghost use Rattle.fx_run_core.specs.Turned.{Running, Turned, booted};
+ghost use Rattle.fx_machine.specs.Turns.{Running, Turned, booted};
 ghost use Rattle.fx_run_core.specs.Ran.{Reached, Follows, EndsIn, RanTo, LoadsNothing};
 
 use fx_base::{Sink, put_all};
+use fx_machine::machine::Machine;
 use fx_machine::stop::{Stop, Turn};
 
 /// How a run ended.
@@ -36,6 +37,16 @@ pub trait Engine {
     /// One whole instruction of the vCPU of this number, taken modulo the number of vCPUs.
     fn turn(&mut self, vcpu: u64) -> Turn
         ensures { Turned (running self.old) vcpu result (running self.new) };
+}
+
+impl Engine for Machine {
+    ghost use Rattle.fx_machine.specs.Machines.{running as state};
+
+    ghost running = { state };
+
+    fn turn(&mut self, vcpu: u64) -> Turn {
+        Machine::turn(self, vcpu)
+    }
 }
 
 /// Makes one turn, the one that the schedule names, and puts its output. None goes on.

@@ -1,6 +1,6 @@
 use Rattle.std.proofs.Common.{◌≡◌, ◌+◌, ◌++◌, [], subst, ap, sym, ◌∙◌, refl, arith}
 use Rattle.std.proofs.lemmas.List.{append-nil}
-use Rattle.fx_run_core.specs.Turned.{Running}
+use Rattle.fx_machine.specs.Turns.{Running}
 use Rattle.fx_run_core.proofs.Steps.{reached_first}
 use Rattle.fx_image.specs.declared.forms.Image.{Image}
 use Rattle.fx_run_core.specs.Ran.{RanTo, Gained, outputs}
@@ -17,7 +17,7 @@ returns-in-Some-clause-ran g c =
     let before = g.O.Sink.faults c.loop-turns.out in
     let now = g.O.Sink.faults c.turn_once.new.out in
     subst (λ (i : Image). RanTo i c.args.budget c.in-Some.outcome (c.loop-turns.turns + 1) start gained first now) c.loop-turns.invariant.image
-      (ran_from m c.args.budget (c.loop-turns.turns + 1) c.in-Some.outcome start taken gained first before now c.in-Some.ensures.ends c.loop-turns.invariant.gained c.loop-turns.invariant.later)
+    (ran_from m c.args.budget (c.loop-turns.turns + 1) c.in-Some.outcome start taken gained first before now c.in-Some.ensures.ends c.loop-turns.invariant.gained c.loop-turns.invariant.later)
 
 pub loop-turns-init : goal.loop-turns-init
 loop-turns-init g c =

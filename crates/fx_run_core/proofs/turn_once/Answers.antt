@@ -2,7 +2,7 @@ use Rattle.std.proofs.Common.{◌≡◌, [], ◌∷◌, ◌++◌, take, inl, inr
 use Rattle.std.proofs.lemmas.List.{append-nil}
 use Rattle.fx_base.specs.Sink.{Gains}
 use Rattle.fx_machine.specs.declared.stop.Turn.TheVariants as answers
-use Rattle.fx_run_core.specs.Turned.{Turned}
+use Rattle.fx_machine.specs.Turns.{Turned}
 use Rattle.fx_run_core.specs.Ran.{Follows, FollowsFront, Gained}
 use Rattle.fx_run_core.proofs.Steps.{stepped}
 use Rattle.fx_run_core.proofs.Puts.{told_same, told_map, front_none, follows_none}
@@ -34,11 +34,12 @@ pub returns-in-Err-clause-ends : goal.returns-in-Err-clause-ends
 returns-in-Err-clause-ends g c =
     let m = g.M.Engine.running c.args.machine.now in
     let b = c.in-Output.byte in
-    let none : c.in-Err.field-0.taken ≡ 0 = omega (arith, c.in-Err.ensures.part) in
-    (c.in-Err.ensures.fault,
+    let none : c.in-Err.field-0.taken ≡ 0 = omega (arith, c.in-Err.ensures.part) in (
+      c.in-Err.ensures.fault,
       told_map (Gains (b ∷ []) c.in-Err.field-0.taken) (FollowsFront m c.args.budget)
-        (λ x y p. front_none m c.args.made c.args.budget c.requires.reached x y (p ∙ ap (λ k. x ++ take k (b ∷ [])) none ∙ append-nil x))
-        (g.O.Sink.taken c.args.out.now) (g.O.Sink.taken c.put_all.new.sink) c.in-Err.ensures.taken)
+          (λ x y p. front_none m c.args.made c.args.budget c.requires.reached x y (p ∙ ap (λ k. x ++ take k (b ∷ [])) none ∙ append-nil x))
+          (g.O.Sink.taken c.args.out.now) (g.O.Sink.taken c.put_all.new.sink) c.in-Err.ensures.taken,
+    )
 
 pub returns-in-Stopped-clause-ends : goal.returns-in-Stopped-clause-ends
 returns-in-Stopped-clause-ends g c =
