@@ -1,4 +1,3 @@
-mod Rows
 pub mod Prefixes
 pub mod Comments
 pub mod Contents

@@ -21,6 +21,14 @@ record IsLongest (text : List ℕ) (n : ℕ) (kind : TokenKind) (k : ℕ) : Type
   is : token_of_length text k ≡ Some kind
   none : (m : ℕ) → k < m → m ≤ n → token_of_length text m ≡ None
 
+abbrev kind_or : TokenKind → Option (TokenKind × ℕ) → TokenKind
+kind_or kind None = kind
+kind_or kind (Some f) = f.0
+
+abbrev length_or : Option (TokenKind × ℕ) → ℕ
+length_or None = 0
+length_or (Some f) = f.1
+
 longest_is : (text : List ℕ) (n : ℕ) (kind : TokenKind) (k : ℕ) → longest text n ≡ Some (kind, k) → IsLongest text n kind k
 longest_is text zero kind k e = absurd cc
 longest_is text (suc n) kind k e = by_kind (token_of_length text (suc n)) refl e (λ f. longest_is text n kind k f)
@@ -36,10 +44,10 @@ longest_is text (suc n) kind k e = by_kind (token_of_length text (suc n)) refl e
           ];
         }
     by_kind (Some here) at e again =
-        let pair : (here, suc n) ≡ (kind, k) = cc in
-        let length_is : suc n ≡ k = ap (λ (p : TokenKind × ℕ). p.1) pair in
+        let kind_is : here ≡ kind = ap (kind_or here) e in
+        let length_is : suc n ≡ k = ap length_or e in
         record {
-          is = ap (token_of_length text) (sym length_is) ∙ at ∙ ap (λ (p : TokenKind × ℕ). Some p.0) pair;
+          is = ap (token_of_length text) (sym length_is) ∙ at ∙ ap (λ (k : TokenKind). Some k) kind_is;
           none = λ m gt le. absurd (omega arith);
         }
 

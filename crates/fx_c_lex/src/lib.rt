@@ -7,8 +7,8 @@
 mod bytes;
 pub mod keyword;
 pub mod laws;
-pub mod lexer;
-pub mod numbers;
+mod lexer;
+mod numbers;
 mod quoted;
 pub mod sign;
 pub mod token;

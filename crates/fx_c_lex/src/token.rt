@@ -1,6 +1,6 @@
 //! Tokens, lists of them, and why a text has none.
 
-ghost use Rattle.std.specs.Prelude.{◌≡◌, ◌++◌, ◌∷◌, [], OnOk};
+ghost use Rattle.std.specs.Prelude.{◌≡◌, ◌++◌, ◌∷◌, [], OnErr, OnOk};
 ghost use Rattle.fx_c_lex.specs.declared.token.LexError.TheVariants.{OutOfMemory as no_memory};
 
 use std::alloc::{AllocError, AllocFailed, Global};
@@ -23,7 +23,7 @@ impl Model for TextBytes {
 
 impl TextBytes {
     /// The text of these bytes.
-    pub fn new(bytes: Vec<u8>) -> TextBytes
+    pub(crate) fn new(bytes: Vec<u8>) -> TextBytes
         ensures { result ≡ bytes.items }
     {
         TextBytes { bytes }
@@ -88,7 +88,7 @@ impl Model for TokenList {
 
 impl TokenList {
     /// No tokens.
-    pub fn new(alloc: Global) -> TokenList
+    pub(crate) fn new(alloc: Global) -> TokenList
         ensures { result ≡ [] }
     {
         TokenList {
@@ -96,9 +96,10 @@ impl TokenList {
         }
     }
 
-    /// Adds a token at the end.
-    pub fn push(&mut self, token: Token) -> Result<(), AllocError>
+    /// Adds a token at the end. An `Err` changes nothing.
+    pub(crate) fn push(&mut self, token: Token) -> Result<(), AllocError>
         ensures ok { OnOk result (self.new ≡ self.old ++ token ∷ []) }
+        ensures err { OnErr result (self.new ≡ self.old) }
     {
         self.tokens.push(token)?;
         Ok(())
