@@ -8,6 +8,8 @@ mod bus_error;
 mod counter;
 mod device;
 mod fail_at;
+#[cfg(test)]
+mod tests;
 
 pub use block_store::BlockStore;
 pub use bus::Bus;
