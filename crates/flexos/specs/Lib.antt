@@ -1,0 +1,6 @@
+pub mod Words
+pub mod Lines
+pub mod Causes
+pub mod Reports
+pub mod Plays
+pub mod Comes

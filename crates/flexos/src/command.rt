@@ -1,0 +1,55 @@
+//! The words of a command.
+
+ghost use Rattle.std.specs.Prelude.{◌≡◌, map, MatchOption, string_bytes};
+ghost use Rattle.flexos.specs.Words.{IsExec, IsUsage, is_file_name};
+ghost use Rattle.flexos.specs.Lines.{name_of};
+
+use crate::came::Which;
+
+/// The name of the source.
+pub const SOURCE: &str = "a.c";
+
+/// The command `exec CONF IMAGE`: builds the image of CONF's source, writes it and runs it.
+#[derive(Clone, Copy, Debug)]
+pub struct Exec<'a> {
+    pub config: &'a str,
+    pub image: &'a str,
+}
+
+/// Whether a word may name a file: it has a byte, and doesn't begin with a dash.
+fn is_file_name(word: &str) -> bool
+    ensures { result ≡ is_file_name word.now }
+{
+    let bytes = word.as_bytes();
+    !bytes.is_empty() && bytes[0] != b'-'
+}
+
+/// The command that the words are.
+pub fn exec_of(words: &[String]) -> Option<Exec<'_>>
+    ensures { MatchOption result (IsUsage (map string_bytes words.now)) (λ exec. IsExec (map string_bytes words.now) exec.config.now exec.image.now) }
+{
+    if words.len() != 3 {
+        return None;
+    }
+    let command = words[0].as_str();
+    let config = words[1].as_str();
+    let image = words[2].as_str();
+    if command == "exec" && is_file_name(config) && is_file_name(image) {
+        Some(Exec { config, image })
+    } else {
+        None
+    }
+}
+
+impl Exec<'_> {
+    /// The name of one of the command's files.
+    pub fn name(&self, which: Which) -> &str
+        ensures { result.now ≡ name_of self.now.config.now self.now.image.now which }
+    {
+        match which {
+            Which::Config => self.config,
+            Which::Source => SOURCE,
+            Which::Image => self.image,
+        }
+    }
+}
