@@ -1,18 +1,17 @@
 -- What is read as an image is its spelling, and the image meets the rules; and each image that does is
 -- read from its spelling.
-use Rattle.std.proofs.Common.{◌≡◌, ℕ, ◌+◌, ◌^◌, ◌<◌, ◌≤◌, Bool, true, false, not, ◌&&◌, ◌||◌, cond, eqb, ltb, leb, List, [], ◌∷◌, ◌++◌, length, Option, Some, None, Result, Ok, Err, refl, sym, ap, subst, ◌∙◌, append_assoc, arith, inl, inr}
+use Rattle.std.proofs.Common.{◌≡◌, ℕ, ◌^◌, ◌<◌, Bool, true, not, ◌&&◌, ◌||◌, cond, eqb, ltb, leb, List, [], ◌∷◌, ◌++◌, length, Option, Some, None, Result, Ok, Err, refl, sym, ap, subst, ◌∙◌, append_assoc, arith, inl, inr}
 use Rattle.std.specs.Prelude.{bit_and, IfOk}
 use Rattle.fx_image.specs.ImageBytes.{ImageBytes}
 use Rattle.std.specs.List.{flat_map, AllByRecursion, list_all}
-use Rattle.std.proofs.lemmas.Bool.{and_parts, or_cases, eqb-true, eq-eqb, leb-true, ltb-true, not-true, both_ways, cases_cond}
+use Rattle.std.proofs.lemmas.Bool.{and_parts, or_cases, eqb-true, ltb-true, not-true, both_ways, cases_cond}
 use Rattle.std.proofs.lemmas.List.{append-nil, nil_from_length}
 use Rattle.fx_image.specs.Fits.{IsBytes, IsText, FitsComp, FitsSection, FitsObj, FitsEntry, FitsStub, FitsStart, FitsImage}
-use Rattle.fx_image.specs.Spelling.{magic, u16_spelling, u32_spelling, block_spelling, comp_spelling, section_spelling, obj_spelling, entry_spelling, stub_spelling, start_spelling, head_spelling, tail_spelling, image_spelling}
+use Rattle.fx_image.specs.Spelling.{u16_spelling, u32_spelling, block_spelling, comp_spelling, section_spelling, obj_spelling, entry_spelling, stub_spelling, start_spelling, image_spelling}
 use Rattle.fx_image.specs.Rules.{IsImage, is_count, are_stacks, are_compartments, are_sections, is_pair, is_code, are_literals, are_objects, is_object, are_apart, is_distinct_by, are_entries, is_entry, are_counted, are_stubs, is_in_runtime, are_owners, are_starts, is_start, first_unlisted, has_none}
-use Rattle.fx_image.specs.Keys.{is_keyed}
 use Rattle.fx_image.specs.Reading.{◌>>=◌, Read, Gives, head_at, compartments_at, sections_at, code_at, literals_at, objects_at, entries_at, stubs_at, abort_at, owners_at, starts_at, sequences, finished, front_at, back_at, image_at}
 use Rattle.fx_image.specs.declared.error.ImageError.{ImageError}
-use Rattle.fx_image.specs.declared.error.ImageError.TheVariants.{Extra, Field, KeySequence}
+use Rattle.fx_image.specs.declared.error.ImageError.TheVariants.{Extra, Field}
 use Rattle.fx_image.specs.declared.forms.Comp.{Comp}
 use Rattle.fx_image.specs.declared.forms.Section.{Section}
 use Rattle.fx_image.specs.declared.forms.Obj.{Obj}

@@ -4,6 +4,7 @@ pub mod Joined
 pub mod KeySteps
 pub mod Loop
 pub mod Counts
+pub mod Differ
 pub mod FieldLaws
 pub mod RecordLaws
 pub mod StageLaws

@@ -1,9 +1,8 @@
 -- An image meets the rules in version 2 too.
-use Rattle.std.proofs.Common.{◌≡◌, ℕ, ◌^◌, Bool, true, false, not, ◌&&◌, ◌||◌, eqb, ltb, leb, List, [], ◌∷◌, length, Result, Ok, Err, refl, sym, subst, inl, inr}
+use Rattle.std.proofs.Common.{◌≡◌, ℕ, ◌^◌, Bool, true, not, ◌&&◌, ◌||◌, eqb, ltb, leb, List, [], ◌∷◌, length, Result, Ok, Err, refl, sym, subst, inl, inr}
 use Rattle.std.specs.Prelude.{bit_and, IfOk}
 use Rattle.std.specs.List.{list_all}
 use Rattle.std.proofs.lemmas.Bool.{and_parts, and_from, or_cases, or_left, or_right}
-use Rattle.fx_image.specs.Keys.{is_keyed}
 use Rattle.fx_image.specs.Rules.{IsImage, are_stacks, is_pair, are_sections, are_spread, are_few, leading, leads, has_key, all_numbered, is_distinct_by, same_pair, have_rights}
 use Rattle.fx_image.specs.declared.forms.Comp.{Comp}
 use Rattle.fx_image.specs.declared.forms.Section.{Section}

@@ -1,17 +1,16 @@
 -- Records of two to six fields, one after the other, and lists of records.
-use Rattle.std.proofs.Common.{◌≡◌, ℕ, zero, suc, ◌^◌, ◌<◌, Bool, true, false, cond, eqb, List, [], ◌∷◌, ◌++◌, length, Result, Ok, Err, refl, sym, ap, subst, ◌∙◌, append_assoc, arith}
+use Rattle.std.proofs.Common.{◌≡◌, ℕ, zero, suc, ◌^◌, ◌<◌, Bool, true, false, cond, eqb, List, [], ◌∷◌, ◌++◌, length, Ok, refl, sym, ap, subst, ◌∙◌, append_assoc, arith}
 use Rattle.std.specs.List.{flat_map, AllByRecursion}
 use Rattle.std.proofs.lemmas.List.Concat.{flat_map-cons}
-use Rattle.fx_image.specs.Reading.{◌>>=◌, Read, bytes_at, u8_at, u16_at, u32_at, u64_at, name_at, block_at, comp_at, pair_at, section_at, obj_at, entry_at, stub_at, start_at, threads_at, records_at}
-use Rattle.fx_image.specs.Spelling.{u16_spelling, u32_spelling, u64_spelling, name_spelling, block_spelling, comp_spelling, pair_spelling, section_spelling, obj_spelling, entry_spelling, stub_spelling, start_spelling, threads_spelling}
-use Rattle.fx_image.specs.declared.error.ImageError.{ImageError}
+use Rattle.fx_image.specs.Reading.{◌>>=◌, Read, u8_at, u16_at, comp_at, pair_at, section_at, obj_at, entry_at, stub_at, start_at, threads_at, records_at}
+use Rattle.fx_image.specs.Spelling.{u16_spelling, comp_spelling, pair_spelling, section_spelling, obj_spelling, entry_spelling, stub_spelling, start_spelling, threads_spelling}
 use Rattle.fx_image.specs.declared.forms.Comp.{Comp}
 use Rattle.fx_image.specs.declared.forms.Section.{Section}
 use Rattle.fx_image.specs.declared.forms.Obj.{Obj}
 use Rattle.fx_image.specs.declared.forms.EntryRec.{EntryRec}
 use Rattle.fx_image.specs.declared.forms.Stub.{Stub}
 use Rattle.fx_image.specs.declared.forms.Start.{Start}
-use Rattle.fx_image.specs.Fits.{IsBytes, IsText, FitsComp, FitsSection, FitsObj, FitsEntry, FitsStub, FitsStart}
+use Rattle.fx_image.specs.Fits.{IsBytes, FitsComp, FitsObj, FitsEntry, FitsStub, FitsStart}
 use Rattle.fx_image.proofs.FieldLaws.{bind_ok, ok_is, Takes, Takes-then, Laws, Part, field_then, field_last, whole, u8_laws, u16_laws, u32_laws, u64_laws, name_laws, block_laws}
 
 -- In each, `made` makes the record of its fields, and the fields of a record of which something is

@@ -1,23 +1,18 @@
 -- The fields of an image with their rules: what is read is spelled so, and what is spelled so is read.
-use Rattle.std.proofs.Common.{◌≡◌, ℕ, ◌^◌, ◌<◌, ◌&&◌, Bool, true, false, cond, eqb, ltb, List, [], ◌∷◌, ◌++◌, length, Result, Ok, Err, refl, sym, ap, subst, ◌∙◌, append_assoc, arith}
+use Rattle.std.proofs.Common.{◌≡◌, ℕ, ◌^◌, ◌<◌, true, cond, eqb, ltb, List, [], ◌∷◌, ◌++◌, length, Ok, Err, refl, ap, subst, ◌∙◌, append_assoc}
 use Rattle.std.specs.List.{flat_map, AllByRecursion}
 use Rattle.std.specs.Str.{bytes_eq}
 use Rattle.std.proofs.lemmas.Bool.{and_parts, eqb-true}
-use Rattle.fx_image.specs.Fits.{IsBytes, IsText, FitsComp, FitsSection, FitsObj, FitsEntry, FitsStub, FitsStart}
+use Rattle.fx_image.specs.Fits.{IsBytes, IsText, FitsComp, FitsObj, FitsEntry, FitsStub, FitsStart}
 use Rattle.fx_image.specs.Spelling.{magic, u16_spelling, u32_spelling, threads_spelling, block_spelling, comp_spelling, section_spelling, obj_spelling, entry_spelling, stub_spelling, start_spelling}
 use Rattle.fx_image.specs.Rules.{is_version, is_mechanism, is_count, are_stacks, are_compartments, are_sections, is_code, are_literals, are_objects, are_entries, are_stubs, is_in_runtime, are_owners}
-use Rattle.fx_image.specs.Reading.{◌>>=◌, Read, bytes_at, u8_at, u16_at, u32_at, block_at, comp_at, section_at, obj_at, entry_at, stub_at, start_at, records_at, table_at, long_table_at, known_at, version_at, mechanism_at, count_at, threads_at, sizes_at, stacks_at, member_at, head_at, compartments_at, sections_at, code_at, literals_at, objects_at, entries_at, stubs_at, abort_at, owners_at, starts_at, front_at}
-use Rattle.fx_image.specs.declared.error.ImageError.{ImageError}
+use Rattle.fx_image.specs.Reading.{◌>>=◌, Read, bytes_at, u8_at, u16_at, u32_at, block_at, comp_at, section_at, obj_at, entry_at, stub_at, records_at, table_at, long_table_at, known_at, version_at, mechanism_at, count_at, sizes_at, stacks_at, member_at, head_at, compartments_at, sections_at, code_at, literals_at, objects_at, entries_at, stubs_at, abort_at, owners_at, starts_at}
 use Rattle.fx_image.specs.declared.error.ImageError.TheVariants.{Magic, Version, Field}
 use Rattle.fx_image.specs.declared.forms.Comp.{Comp}
 use Rattle.fx_image.specs.declared.forms.Section.{Section}
-use Rattle.fx_image.specs.declared.forms.Obj.{Obj}
 use Rattle.fx_image.specs.declared.forms.EntryRec.{EntryRec}
-use Rattle.fx_image.specs.declared.forms.Stub.{Stub}
-use Rattle.fx_image.specs.declared.forms.Start.{Start}
 use Rattle.fx_image.specs.declared.reading.Head.{Head}
-use Rattle.fx_image.specs.declared.reading.Front.{Front}
-use Rattle.fx_image.proofs.FieldLaws.{bind_ok, rule_ok, ok_is, Takes, Takes-then, Laws, Part, whole, ruled, bytes_takes, bytes_again, u8_laws, u16_laws, u32_laws, block_laws}
+use Rattle.fx_image.proofs.FieldLaws.{bind_ok, rule_ok, ok_is, Takes, Takes-then, Laws, whole, ruled, bytes_takes, bytes_again, u8_laws, u16_laws, u32_laws, block_laws}
 use Rattle.fx_image.proofs.RecordLaws.{two, comp_laws, section_laws, obj_laws, entry_laws, stub_laws, start_laws, FitsVersion, FitsThreads, threads_laws, records_laws, counted_laws}
 
 -- ---- the first two fields

@@ -1,13 +1,19 @@
 //! The rules of the objects.
 
-ghost use Rattle.std.specs.Prelude.{◌≡◌};
+ghost use Rattle.std.specs.Prelude.{◌≡◌, IfOk, map};
+ghost use Rattle.std.specs.BTreeSet.{IsFromIterResult};
+ghost use Rattle.std.specs.Cmp.Lexicographic.{slice_cmp};
+ghost use Rattle.std.specs.Ordering.{nat_cmp};
 ghost use Rattle.std.specs.Option.{option_copied};
-ghost use Rattle.std.specs.List.{list_any, list_all};
+ghost use Rattle.std.specs.List.{list_all};
 ghost use Rattle.std.specs.Str.{bytes_eq};
+ghost use Rattle.fx_image.specs.declared.forms.Obj.{Obj};
 ghost use Rattle.fx_image.specs.Rules.{is_distinct_by, is_inside, is_trimmed, is_object, are_apart, are_objects};
 
 use crate::forms::{Obj, Section};
 use crate::names::is_object_name;
+use std::alloc::{AllocError, Global};
+use std::collections::BTreeSet;
 
 /// Whether the object lies in the section's pages.
 fn is_inside(section: Option<&Section>, o: &Obj) -> bool
@@ -64,36 +70,45 @@ fn are_apart(objects: &[Obj]) -> bool
     true
 }
 
-/// Whether an object has this name.
-fn is_taken(objects: &[Obj], name: &[u8]) -> bool
-    ensures { result ≡ list_any (λ o. bytes_eq name.now o.name) objects.now }
+/// The objects' names, in order.
+fn object_names(alloc: Global, objects: &[Obj]) -> Result<Vec<&[u8]>, AllocError>
+    ensures { IfOk result (λ v. map (λ s. s.now) v.items ≡ map (λ (o : Obj). o.name) objects.now) }
 {
+    let mut found = Vec::with_capacity(alloc, objects.len())?;
     for o in objects {
-        if name == o.name.as_slice() {
-            return true;
-        }
+        found.push(o.name.as_slice())?;
     }
-    false
+    Ok(found)
 }
 
-fn have_distinct_names(objects: &[Obj]) -> bool
-    ensures { result ≡ is_distinct_by (λ a b. bytes_eq a.name b.name) objects.now }
+/// Each name once.
+fn distinct_names<'a>(alloc: Global, names: &[&'a [u8]]) -> Result<BTreeSet<&'a [u8]>, AllocError>
+    ensures { IfOk result (IsFromIterResult (λ x y. slice_cmp nat_cmp x.now y.now) names.now) }
 {
-    for (k, o) in objects.iter().enumerate() {
-        if is_taken(&objects[k + 1..], o.name.as_slice()) {
-            return false;
-        }
-    }
-    true
+    names.iter().copied().collect(alloc)
+}
+
+/// Whether no two objects have one name: in time near linear, since a file may have 32,016 of them.
+fn have_distinct_names(alloc: Global, objects: &[Obj]) -> Result<bool, AllocError>
+    ensures { IfOk result (λ b. b ≡ is_distinct_by (λ (x y : Obj). bytes_eq x.name y.name) objects.now) }
+{
+    let names = object_names(alloc, objects)?;
+    let distinct = distinct_names(alloc, &names)?;
+    Ok(distinct.len() == names.len())
 }
 
 /// Whether the objects, 32,016 at most, lie in their sections, ascending and apart, under names of
 /// their own.
-pub(crate) fn are_objects(sections: &[Section], objects: &[Obj]) -> bool
-    ensures { result ≡ are_objects sections.now objects.now }
+pub(crate) fn are_objects(
+    alloc: Global,
+    sections: &[Section],
+    objects: &[Obj],
+) -> Result<bool, AllocError>
+    ensures { IfOk result (λ b. b ≡ are_objects sections.now objects.now) }
 {
-    objects.len() <= 32016
-        && are_all_objects(sections, objects)
-        && are_apart(objects)
-        && have_distinct_names(objects)
+    let placed = objects.len() <= 32016 && are_all_objects(sections, objects) && are_apart(objects);
+    if !placed {
+        return Ok(false);
+    }
+    have_distinct_names(alloc, objects)
 }

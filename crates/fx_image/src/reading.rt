@@ -243,7 +243,7 @@ fn read_objects<'a>(alloc: Global, sections: &Sections, bytes: &'a [u8]) -> Read
     ensures { Gives (λ x. (x.0, x.1.now)) result (objects_at sections.now bytes.now) }
 {
     let (objects, rest) = read_long_table::<Obj>(alloc, VERSION, bytes)?;
-    if !are_objects(sections.as_slice(), objects.as_slice()) {
+    if !are_objects(alloc, sections.as_slice(), objects.as_slice())? {
         return Err(ImageError::Field(12));
     }
     Ok((objects, rest))

@@ -1,4 +1,4 @@
-use Rattle.std.proofs.Common.{◌≡◌, ◌+◌, ◌^◌, ◌<◌, ◌≤◌, cond, eqb}
+use Rattle.std.proofs.Common.{◌≡◌, ◌+◌, ◌^◌, ◌<◌, cond, eqb}
 use Rattle.fx_image.specs.Keys.{keys_below}
 use Rattle.fx_image.proofs.keys.pkru_of.Given as goal
 

@@ -1,4 +1,4 @@
-use Rattle.std.proofs.Common.{true, false, arith}
+use Rattle.std.proofs.Common.{true, false}
 use Rattle.fx_image.proofs.Unlisted.{asked, found_here, not_here, none_left}
 use Rattle.fx_image.proofs.sequences.first_unlisted.Goals as goal
 

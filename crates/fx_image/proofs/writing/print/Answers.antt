@@ -1,4 +1,3 @@
-use Rattle.std.proofs.Common.{◌≡◌}
 use Rattle.fx_image.specs.Spelling.{image_spelling}
 use Rattle.fx_image.proofs.Room.{roomy}
 use Rattle.fx_image.proofs.Joined.{joined}
