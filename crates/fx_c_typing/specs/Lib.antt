@@ -1,0 +1,4 @@
+pub mod Checks
+pub mod Types
+pub mod Values
+pub mod Operators

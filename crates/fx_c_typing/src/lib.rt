@@ -1,0 +1,9 @@
+//! The typing rules of C at one node of a tree: what type an expression has, given its operands,
+//! which implicit conversions are written, and which rule refuses it.
+#![tactic(auto)]
+
+pub mod category;
+pub mod fault;
+pub mod operators;
+pub mod types;
+pub mod values;
