@@ -1,0 +1,3 @@
+pub mod Integers
+pub mod Blocks
+pub mod Operators

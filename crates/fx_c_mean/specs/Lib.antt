@@ -1,0 +1,5 @@
+pub mod Programs
+pub mod Rights
+pub mod States
+pub mod Steps
+pub mod Expected
