@@ -8,6 +8,8 @@ mod image;
 mod inputs;
 mod play;
 mod report;
+#[cfg(test)]
+mod tests;
 mod top;
 
 use adapters::{RealFiles, StdSink, StdSource};

@@ -1,0 +1,167 @@
+//! The top call over files and streams in memory: what each command answers, writes and prints.
+
+use crate::inputs::EARLY_DOCUMENT;
+use crate::top::flexos;
+use fx_base::{MemFiles, MemSink, MemSource};
+use std::alloc::{AllocError, Global};
+use std::test::Fail;
+
+/// What a command left.
+#[derive(Drop)]
+struct Left {
+    status: u8,
+    files: MemFiles,
+    out: MemSink,
+    err: MemSink,
+}
+
+/// The words of a text, parted by spaces.
+fn words(alloc: Global, text: &str) -> Result<Vec<String>, AllocError> {
+    let mut words = Vec::new(alloc);
+    for word in text.split_whitespace() {
+        words.push(String::from_str(alloc, word)?)?;
+    }
+    Ok(words)
+}
+
+/// Runs a command over these files, whose calls of one number fail, with an output of this capacity.
+fn command(
+    alloc: Global,
+    text: &str,
+    files: &[(&str, &[u8])],
+    failing: u64,
+    capacity: u64,
+) -> Result<Left, AllocError> {
+    let mut held = MemFiles::new(alloc, vec![in alloc; failing]?);
+    for (name, bytes) in files {
+        held.add(name, bytes)?;
+    }
+    let words = words(alloc, text)?;
+    let mut input = MemSource::new(Vec::new(alloc), Vec::new(alloc));
+    let mut out = MemSink::new(alloc, capacity, 3, Vec::new(alloc))?;
+    let mut err = MemSink::new(alloc, 100, 100, Vec::new(alloc))?;
+    let status = flexos(
+        alloc,
+        &words,
+        &mut held,
+        &mut input,
+        &mut out,
+        &mut err,
+        Vec::new(alloc),
+    );
+    Ok(Left {
+        status,
+        files: held,
+        out,
+        err,
+    })
+}
+
+const EXEC: &str = "exec conf.toml out.img";
+
+/// Runs `exec` of a source, with no fault.
+fn exec(alloc: Global, source: &[u8]) -> Result<Left, AllocError> {
+    let files = [("conf.toml", EARLY_DOCUMENT.as_bytes()), ("a.c", source)];
+    command(alloc, EXEC, &files, 0, 2000)
+}
+
+#[test]
+fn programs_run_and_print(rt: HostRuntime) -> Result<(), Fail> {
+    let cases: [(&str, &[u8], &str); 4] = [
+        ("void main() { __putc(72); }", b"H", "exit 0 in 9 turns\n"),
+        ("void main() { }", b"", "exit 0 in 7 turns\n"),
+        ("void main() { return; }", b"", "exit 0 in 7 turns\n"),
+        (
+            "void\tmain(\r\n) {__putc(0);__putc ( 255 );__putc(10); return ; }\n",
+            &[0, 255, 10],
+            "exit 0 in 13 turns\n",
+        ),
+    ];
+    for (source, output, line) in cases {
+        let left = exec(rt.alloc(), source.as_bytes())?;
+        assert_eq!(rt; left.status, 0, "{source}");
+        assert_eq!(rt; left.out.bytes(), output, "{source}");
+        assert_eq!(rt; left.err.bytes(), line.as_bytes(), "{source}");
+        let image = left.files.get("out.img").ok_or("no image")?;
+        assert!(rt; image.starts_with(b"FXIM"), "{source}");
+    }
+    Ok(())
+}
+
+#[test]
+fn other_words_are_usage(rt: HostRuntime) -> Result<(), Fail> {
+    let cases = [
+        "",
+        "build a.toml",
+        "run x --steps 01",
+        "exec conf.toml",
+        "exec -x out.img",
+        "exec conf.toml -out",
+        "exec conf.toml out.img more",
+        "Exec conf.toml out.img",
+    ];
+    for text in cases {
+        let files = [("conf.toml", EARLY_DOCUMENT.as_bytes())];
+        let left = command(rt.alloc(), text, &files, 1, 10)?;
+        assert_eq!(rt; left.status, 2, "{text}");
+        assert_eq!(rt; left.err.bytes(), b"usage\n".as_slice(), "{text}");
+    }
+    Ok(())
+}
+
+#[test]
+fn refusals_and_faults_have_their_lines(rt: HostRuntime) -> Result<(), Fail> {
+    let alloc = rt.alloc();
+    let conf = ("conf.toml", EARLY_DOCUMENT.as_bytes());
+    let full = ("conf.toml", b"mechanism = \"full\"\n".as_slice());
+    let good = ("a.c", b"void main(){__putc(72);}".as_slice());
+    let bad = ("a.c", b"void main(){__putc(256);}".as_slice());
+    let cases: [(&[(&str, &[u8])], u64, u64, u8, &str); 9] = [
+        (&[conf, good], 1, 9, 4, "file fault: conf.toml\n"),
+        (&[conf, good], 2, 9, 4, "file fault: a.c\n"),
+        (&[conf, good], 3, 9, 4, "file fault: out.img\n"),
+        (&[good], 0, 9, 4, "no file: conf.toml\n"),
+        (&[conf], 0, 9, 4, "no file: a.c\n"),
+        (&[full, good], 0, 9, 3, "refused: early Config\n"),
+        (&[full], 2, 9, 3, "refused: early Config\n"),
+        (&[conf, bad], 3, 9, 3, "refused: early Source 0\n"),
+        (&[conf, good], 0, 0, 5, "write fault\n"),
+    ];
+    for (files, failing, capacity, status, line) in cases {
+        let left = command(alloc, EXEC, files, failing, capacity)?;
+        assert_eq!(rt; left.status, status, "{line}");
+        assert_eq!(rt; left.err.bytes(), line.as_bytes());
+        assert_eq!(rt; left.files.get("out.img").is_some(), status == 5, "{line}");
+    }
+    Ok(())
+}
+
+/// A program of so many statements, filled up with spaces to so many bytes.
+fn program_of(alloc: Global, statements: usize, bytes: usize) -> Result<Vec<u8>, AllocError> {
+    let mut text = Vec::from_slice(alloc, b"void main(){")?;
+    for _ in 0..statements {
+        text.extend_from_slice(b"__putc(65);")?;
+    }
+    text.extend_from_slice(b"}")?;
+    for _ in text.len()..bytes {
+        text.push(b' ')?;
+    }
+    Ok(text)
+}
+
+#[test]
+fn sources_have_their_limits(rt: HostRuntime) -> Result<(), Fail> {
+    let alloc = rt.alloc();
+    let cases = [
+        (1000, 0, 0, "exit 0 in 2007 turns\n"),
+        (1001, 0, 3, "refused: early Source 0\n"),
+        (1, 1_048_576, 0, "exit 0 in 9 turns\n"),
+        (1, 1_048_577, 4, "file too long: a.c\n"),
+    ];
+    for (statements, bytes, status, line) in cases {
+        let left = exec(alloc, &program_of(alloc, statements, bytes)?)?;
+        assert_eq!(rt; left.status, status, "{line}");
+        assert_eq!(rt; left.err.bytes(), line.as_bytes());
+    }
+    Ok(())
+}
