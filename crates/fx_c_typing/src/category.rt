@@ -1,5 +1,6 @@
 //! What kind of type an expression has.
 
+use crate::fault::TypeKind;
 use fx_c_ast::operator::IntType;
 
 /// The categories of types that the rules tell apart.
@@ -10,4 +11,11 @@ pub enum Category {
     Structure,
     Pointer,
     Array,
+}
+
+/// What stands left of `->`: a pointer to the struct with a number, or what is refused.
+#[derive(Clone, Copy, Debug, PartialEq, Eq)]
+pub enum ArrowTarget {
+    Structure(u32),
+    Refused(TypeKind),
 }
