@@ -1,16 +1,15 @@
 -- The cost of each kind of step, counted by hand. A run of `main` costs 6 beside its body: 1 and an eighth
 -- of its 32 bytes of stack to enter, and 1 to return.
-use Rattle.std.proofs.Common.{◌≡◌, ℕ, ◌+◌, Bool, true, false, List, [], ◌∷◌, Option, Some, None, is_some, refl}
-use Rattle.fx_outcomes.specs.Runs.{Outcome}
-use Rattle.fx_c_ast.specs.declared.operator.IntType.TheVariants.{Char, Int}
+use Rattle.std.proofs.Common.{◌≡◌, ℕ, ◌+◌, Bool, true, false, List, [], ◌∷◌, Some, None, is_some, refl}
+use Rattle.fx_c_ast.specs.declared.operator.IntType.TheVariants.{Char}
 use Rattle.fx_c_ast.specs.declared.operator.Unop.TheVariants.{Neg, Lnot, Deref, Addr}
-use Rattle.fx_c_ast.specs.declared.operator.Binop.TheVariants.{Add, Sub, Lt, Eq, Land, Lor}
-use Rattle.fx_c_ast.specs.CheckedTrees.{TyTree, VoidTy, IntTy, StructTy, PtrTy, ArrayTy, TExprTree, ELocal, EUn, EBin, ECast, EConvert, ESize, EIndex, EMember, ECall, EGate, EPutc, ESpawn, ESwitch, EMe, NoTExprs, TStmtTree, SEmpty, SBlock, SEval, SAssign, SLocal, SIf, SWhile, SFor, SBreak, SContinue, NoTStmt, OneTStmt}
+use Rattle.fx_c_ast.specs.declared.operator.Binop.TheVariants.{Add, Land, Lor}
+use Rattle.fx_c_ast.specs.CheckedTrees.{TyTree, VoidTy, IntTy, StructTy, PtrTy, ArrayTy, TExprTree, ELocal, EUn, EBin, ECast, EConvert, ESize, EIndex, EMember, ECall, EGate, ESpawn, ESwitch, EMe, NoTExprs, TStmtTree, SEmpty, SBlock, SEval, SAssign, SLocal, SIf, SWhile, SFor, SBreak, SContinue, NoTStmt, OneTStmt}
 use Rattle.fx_c_ast.specs.Layout.{struct_layout}
 use Rattle.fx_c_mean.specs.declared.rights.Rights.{Rights}
 use Rattle.fx_c_mean.specs.Programs.{Program}
 use Rattle.fx_c_mean.specs.Expected.{expected}
-use Rattle.fx_c_mean.proofs.Texts.{int, long, num, lnum, to_long, one, block, gives_back, function, program, single, two, main_of, with_functions, nothing_more}
+use Rattle.fx_c_mean.proofs.Texts.{int, long, num, to_long, block, gives_back, function, program, single, two, main_of, with_functions, nothing_more}
 
 -- a run ends at a cost, and not before
 ends_at : Program → Rights → ℕ → Bool × Bool

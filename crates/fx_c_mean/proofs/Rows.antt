@@ -1,17 +1,17 @@
 -- What small programs do, computed: ends, operations, and costs counted by hand.
-use Rattle.std.proofs.Common.{◌≡◌, ℕ, ℤ, pos, negsuc, Bool, true, false, List, [], ◌∷◌, Option, Some, None, refl}
+use Rattle.std.proofs.Common.{◌≡◌, ℕ, pos, negsuc, true, false, [], ◌∷◌, Some, refl}
 use Rattle.fx_base.specs.declared.device_op.DeviceOp.{DeviceOp}
 use Rattle.fx_c_ast.specs.declared.operator.IntType.TheVariants.{Uint}
 use Rattle.fx_c_ast.specs.declared.operator.Unop.TheVariants.{Neg, Deref, Addr}
 use Rattle.fx_c_ast.specs.declared.operator.Binop.TheVariants.{Add, Sub, Div, Shl, Lt, Eq}
 use Rattle.fx_c_ast.specs.declared.parsed.Init.TheVariants as init
-use Rattle.fx_c_ast.specs.CheckedTrees.{TyTree, VoidTy, IntTy, PtrTy, ArrayTy, TExprTree, ENumber, ELocal, EGlobal, EUn, EBin, EConvert, EIndex, ECall, EGate, EPutc, EDevLoad, EDevStore, ESpawn, ESwitch, SEval, SAssign, SLocal, SIf, SWhile, SFor, SReturn, NoTStmt, OneTStmt, NoTExprs, SBlock}
-use Rattle.fx_c_blocks.specs.declared.block.Place.TheVariants.{Global, Literal, Local}
-use Rattle.fx_c_mean.specs.declared.end.End.TheVariants.{Exit, Denied, StackFull, Divide, BadThread, ThreadsFull, Undefined}
+use Rattle.fx_c_ast.specs.CheckedTrees.{VoidTy, IntTy, PtrTy, TExprTree, ELocal, EGlobal, EUn, EBin, EConvert, ECall, EGate, EPutc, EDevLoad, EDevStore, ESpawn, ESwitch, SEval, SAssign, SLocal, SIf, SFor, NoTStmt, OneTStmt}
+use Rattle.fx_c_blocks.specs.declared.block.Place.TheVariants.{Global, Local}
+use Rattle.fx_c_mean.specs.declared.end.End.TheVariants.{Exit, Denied, StackFull, Divide, BadThread, ThreadsFull}
 use Rattle.fx_c_mean.specs.declared.rights.Rights.{Rights}
 use Rattle.fx_c_mean.specs.Programs.{Program, Function}
 use Rattle.fx_c_mean.specs.Expected.{expected}
-use Rattle.fx_c_mean.proofs.Texts.{int, long, num, lnum, to_long, one, block, gives_back, function, global, program, single, two, Ends, ends, goes_on, exits, main_of, with_functions, nothing_more}
+use Rattle.fx_c_mean.proofs.Texts.{int, long, num, lnum, to_long, one, gives_back, function, global, program, single, two, ends, goes_on, exits, main_of, with_functions, nothing_more}
 
 put : ℕ → DeviceOp
 put c = record { device = 0; reg = 0; write = true; value = c }

@@ -1,11 +1,10 @@
 -- Small programs, written out as trees, for the examples.
-use Rattle.std.proofs.Common.{ℕ, ℤ, pos, Bool, true, false, List, [], ◌∷◌, Option, Some, None}
+use Rattle.std.proofs.Common.{ℕ, pos, Bool, false, List, [], ◌∷◌, Some, None}
 use Rattle.fx_outcomes.specs.Runs.{Outcome}
 use Rattle.fx_base.specs.declared.device_op.DeviceOp.{DeviceOp}
-use Rattle.fx_c_ast.specs.declared.operator.IntType.{IntType}
 use Rattle.fx_c_ast.specs.declared.operator.IntType.TheVariants.{Int, Long}
 use Rattle.fx_c_ast.specs.declared.parsed.Init.{Init}
-use Rattle.fx_c_ast.specs.CheckedTrees.{TyTree, VoidTy, IntTy, PtrTy, TExprTree, ENumber, ELocal, EConvert, TExprTrees, NoTExprs, MoreTExprs, TStmtTree, SReturn, TStmtTrees, NoTStmts, MoreTStmts}
+use Rattle.fx_c_ast.specs.CheckedTrees.{TyTree, VoidTy, IntTy, TExprTree, ENumber, EConvert, TExprTrees, NoTExprs, MoreTExprs, TStmtTree, SReturn, TStmtTrees, NoTStmts, MoreTStmts}
 use Rattle.fx_c_mean.specs.declared.end.End.{End}
 use Rattle.fx_c_mean.specs.declared.end.End.TheVariants.{Exit}
 use Rattle.fx_c_mean.specs.declared.rights.Rights.{Rights}

@@ -1,15 +1,15 @@
 -- Each case that the language leaves undefined, and its neighbours that are defined.
-use Rattle.std.proofs.Common.{◌≡◌, ℕ, List, [], ◌∷◌, Option, Some, None, refl}
-use Rattle.fx_c_ast.specs.declared.operator.IntType.TheVariants.{Char, Int}
+use Rattle.std.proofs.Common.{◌≡◌, ℕ, List, [], ◌∷◌, Some, refl}
+use Rattle.fx_c_ast.specs.declared.operator.IntType.TheVariants.{Char}
 use Rattle.fx_c_ast.specs.declared.operator.Unop.TheVariants.{Deref, Addr}
 use Rattle.fx_c_ast.specs.declared.operator.Binop.{Binop}
 use Rattle.fx_c_ast.specs.declared.operator.Binop.TheVariants.{Add, Sub, Lt, Le, Eq}
-use Rattle.fx_c_ast.specs.CheckedTrees.{TyTree, VoidTy, IntTy, StructTy, PtrTy, ArrayTy, TExprTree, ELiteral, ELocal, EUn, EBin, ECast, EConvert, EIndex, ECall, NoTExprs, EMember, EArrow, SEval, SAssign, SLocal, SIf, NoTStmt, TStmtTree}
+use Rattle.fx_c_ast.specs.CheckedTrees.{TyTree, IntTy, StructTy, PtrTy, ArrayTy, TExprTree, ELiteral, ELocal, EUn, EBin, ECast, EConvert, EIndex, ECall, NoTExprs, EMember, EArrow, SEval, SAssign, SLocal, SIf, NoTStmt, TStmtTree}
 use Rattle.fx_c_ast.specs.Layout.{struct_layout}
 use Rattle.fx_c_mean.specs.declared.end.End.TheVariants.{Undefined}
-use Rattle.fx_c_mean.specs.Programs.{Program, Function}
+use Rattle.fx_c_mean.specs.Programs.{Function}
 use Rattle.fx_c_mean.specs.Expected.{expected}
-use Rattle.fx_c_mean.proofs.Texts.{int, long, num, lnum, to_long, one, gives_back, function, program, single, Ends, ends, exits, main_of, with_functions, nothing_more}
+use Rattle.fx_c_mean.proofs.Texts.{int, long, num, lnum, to_long, gives_back, function, program, single, Ends, ends, exits, main_of, with_functions, nothing_more}
 
 undefined : Ends
 undefined = ends [] Undefined

@@ -3,3 +3,4 @@ pub mod Rights
 pub mod States
 pub mod Steps
 pub mod Expected
+pub mod Laws

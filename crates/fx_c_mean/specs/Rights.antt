@@ -1,10 +1,10 @@
 -- The rights of a configuration as plain data, and what they say of accesses, stacks and gates. The whole
 -- file is this project's own.
-use Rattle.std.specs.Prelude.{ℕ, ◌+◌, ◌*◌, ◌/◌, ◌%◌, ◌^◌, Bool, true, false, not, ◌||◌, nat_eq, List, [], ◌∷◌, slice_index, slice_index_or, if◌then◌else◌}
+use Rattle.std.specs.Prelude.{ℕ, ◌*◌, ◌/◌, ◌%◌, ◌^◌, Bool, false, not, ◌||◌, nat_eq, slice_index, slice_index_or, if◌then◌else◌}
 use Rattle.fx_c_blocks.specs.declared.block.Place.{Place}
 use Rattle.fx_c_blocks.specs.declared.block.Place.TheVariants.{Global, Literal, Local}
 use Rattle.fx_c_ast.specs.CheckedTrees.{VoidTy}
-use Rattle.fx_c_mean.specs.Programs.{Variable, Function, Program, function_at}
+use Rattle.fx_c_mean.specs.Programs.{Variable, Program, function_at}
 use Rattle.fx_c_mean.specs.declared.rights.Rights.{Rights}
 
 -- a set of compartments is a number whose bit c tells of compartment c

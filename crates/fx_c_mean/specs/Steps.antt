@@ -1,13 +1,11 @@
 -- One step of a run.
-use Rattle.std.specs.Prelude.{ℕ, zero, suc, ◌+◌, ◌*◌, ◌/◌, ◌<◌, Bool, true, false, not, ◌&&◌, nat_eq, nat_lt, ℤ, pos, List, [], ◌∷◌, ◌++◌, length, slice_get, slice_set, Option, Some, None, Result, Ok, Err, if◌then◌else◌}
+use Rattle.std.specs.Prelude.{ℕ, ◌+◌, ◌/◌, Bool, true, false, not, nat_eq, nat_lt, ℤ, pos, List, [], ◌∷◌, ◌++◌, length, slice_get, slice_set, Option, Some, Result, Ok, Err, if◌then◌else◌}
 use Rattle.fx_outcomes.specs.Runs.{Next, Goes, Stops}
 use Rattle.fx_base.specs.declared.device_op.DeviceOp.{DeviceOp}
-use Rattle.fx_c_ast.specs.declared.operator.IntType.{IntType}
 use Rattle.fx_c_ast.specs.declared.operator.IntType.TheVariants.{Long}
 use Rattle.fx_c_ast.specs.declared.operator.Binop.{Binop}
 use Rattle.fx_c_ast.specs.declared.operator.Binop.TheVariants.{Land, Lor}
-use Rattle.fx_c_ast.specs.CheckedTrees.{TyTree, VoidTy, IntTy, StructTy, PtrTy, ArrayTy, TExprTree, TStmtTree, TStmtTrees, MaybeTStmt}
-use Rattle.fx_c_blocks.specs.declared.value.Pointer.{Pointer}
+use Rattle.fx_c_ast.specs.CheckedTrees.{TyTree, IntTy, StructTy, PtrTy, TExprTree, TStmtTree, MaybeTStmt}
 use Rattle.fx_c_blocks.specs.declared.value.Value.{Value}
 use Rattle.fx_c_blocks.specs.declared.value.Value.TheVariants.{Void, Number, Null, Address}
 use Rattle.fx_c_blocks.specs.declared.value.Cell.{Cell}
@@ -19,9 +17,9 @@ use Rattle.fx_c_blocks.specs.Integers.{number, converted}
 use Rattle.fx_c_blocks.specs.Blocks.{Object, value_in, cells_of, width, reached, if_writable, offset_in, cells_at, written, without, moved}
 use Rattle.fx_c_blocks.specs.Operators.{unary_result, conversion, binary_result}
 use Rattle.fx_c_mean.specs.declared.rights.Rights.{Rights}
-use Rattle.fx_c_mean.specs.Programs.{Program, Function, function_at, size_in, offset_of, first_memory, call_objects}
+use Rattle.fx_c_mean.specs.Programs.{Program, function_at, size_in, offset_of, first_memory, call_objects}
 use Rattle.fx_c_mean.specs.Rights.{home, may, stack_of, stack_size}
-use Rattle.fx_c_mean.specs.States.{Loop, While, For, Way, Plainly, ByGate, First, Call, Frame, Truth, Caller, Spot, Does, Act, Push, SizeOf, GlobalAddress, LiteralAddress, LocalAddress, Load, Apply, Convert, Step, Combine, Decide, Judge, Enter, Ask, Tell, Spawn, Switch, Self, Store, ReadByte, WriteByte, Branch, Test, JumpBack, Break, Continue, Leave, FallOff, Stuck, start, begin, begin_maybe, begin_all, follow, begin_loop, begin_body, loop_body, after_loop, next_round, unwind, give}
+use Rattle.fx_c_mean.specs.States.{Loop, Way, Plainly, ByGate, First, Call, Frame, Truth, Caller, Spot, Does, Push, SizeOf, GlobalAddress, LiteralAddress, LocalAddress, Load, Apply, Convert, Step, Combine, Decide, Judge, Enter, Ask, Tell, Spawn, Switch, Self, Store, ReadByte, WriteByte, Branch, Test, JumpBack, Break, Continue, Leave, FallOff, Stuck, start, begin, begin_maybe, begin_all, follow, begin_loop, begin_body, loop_body, after_loop, next_round, unwind, give}
 
 -- a thread that was made: it runs now, it waits at a spot of a call, or it has ended
 pub data Thread : Type 0 where
@@ -205,14 +203,17 @@ ended p s v =
     if nat_eq s.current 0 then Stops [] (Exit (exit_value (function_at p s.call.function).gives v))
     else resume s Ended 0 (slice_get s.threads 0)
 
--- the objects of the call die (6.2.4), and the caller goes on with the value
+-- the caller goes on with the value
 abbrev pub returned : Program → State → Value → List Frame → Outcome
 returned p s v (Caller call crosses ∷ rest) = Goes [] (record s { call = call; spot = give v rest })
 returned p s v _ = ended p s v
 
+-- the objects of the call die (6.2.4)
+abbrev pub left : Program → State → State
+left p s = record s { memory = without s.memory s.call.base (length (function_at p s.call.function).variables) }
+
 abbrev pub leave : Program → State → Value → List Frame → Outcome
-leave p s v rest =
-    returned p (record s { memory = without s.memory s.call.base (length (function_at p s.call.function).variables) }) v (unwind rest)
+leave p s v rest = returned p (left p s) v (unwind rest)
 
 -- ---- operations
 

@@ -5,4 +5,5 @@
 #![tactic(auto)]
 
 pub mod end;
+pub mod laws;
 pub mod rights;
