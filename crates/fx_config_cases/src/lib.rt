@@ -1,0 +1,5 @@
+//! What the reader of configuration documents answers to documents by hand.
+#![tactic(auto)]
+
+#[cfg(test)]
+mod tests;
