@@ -1,0 +1,4 @@
+pub mod Needs
+pub mod Slots
+pub mod Spans
+pub mod Tried
