@@ -1,6 +1,6 @@
 -- Memory as a list of objects: what an access reads, what it writes, and where pointers lead. An object's
 -- number is its place in the list; it keeps it when it dies. After C11 3.15, 6.2.4, 6.2.6 and 6.5.6.
-use Rattle.std.specs.Prelude.{ℕ, zero, suc, ◌+◌, ◌*◌, ◌/◌, ◌%◌, Bool, true, false, not, ◌&&◌, nat_eq, nat_le, int_lt, int_le, ℤ, pos, ◌+ℤ◌, nat_abs, List, [], ◌∷◌, ◌++◌, length, take, drop, slice_get, slice_set, Option, Some, None, option_map, Result, Ok, Err, if◌then◌else◌}
+use Rattle.std.specs.Prelude.{ℕ, zero, suc, ◌+◌, ◌*◌, ◌/◌, ◌%◌, Bool, true, false, not, ◌&&◌, nat_eq, nat_le, int_lt, int_le, ℤ, pos, ◌+ℤ◌, nat_abs, List, [], ◌∷◌, take, drop, slice_get, slice_index_or, slice_set, Option, Some, None, option_map, Result, Ok, Err, if◌then◌else◌}
 use Rattle.fx_c_ast.specs.CheckedTrees.{TyTree, IntTy, PtrTy}
 use Rattle.fx_c_ast.specs.Layout.{integer_size}
 use Rattle.fx_c_blocks.specs.declared.value.Pointer.{Pointer}
@@ -8,17 +8,11 @@ use Rattle.fx_c_blocks.specs.declared.value.Value.{Value}
 use Rattle.fx_c_blocks.specs.declared.value.Value.TheVariants.{Void, Number, Null, Address}
 use Rattle.fx_c_blocks.specs.declared.value.Cell.{Cell}
 use Rattle.fx_c_blocks.specs.declared.value.Cell.TheVariants.{Byte, Part}
+use Rattle.fx_c_blocks.specs.declared.block.Object.{Object}
 use Rattle.fx_c_blocks.specs.declared.block.Place.{Place}
 use Rattle.fx_c_blocks.specs.declared.block.Place.TheVariants.{Literal}
 use Rattle.fx_c_blocks.specs.declared.fault.Fault.{Fault}
 use Rattle.fx_c_blocks.specs.declared.fault.Fault.TheVariants.{Undefined}
-
--- `size` is kept when the object dies; its cells are then gone
-pub record Object : Type 0 where
-  pub place : Place
-  pub size : ℕ
-  pub live : Bool
-  pub cells : List Cell
 
 -- ---- cells and values
 
@@ -83,6 +77,10 @@ width _ = 0
 
 -- ---- accesses
 
+abbrev pub and_then : {A B : Type 0} → Result A Fault → (A → Result B Fault) → Result B Fault
+and_then (Ok a) go = go a
+and_then (Err e) go = Err e
+
 -- a live object holds n bytes from an offset on
 abbrev pub holds : ℕ → ℕ → Object → Bool
 holds offset n o = o.live && nat_le (offset + n) o.size
@@ -104,22 +102,38 @@ offset_in _ = 0
 abbrev pub cells_at : Object → ℕ → ℕ → List Cell
 cells_at o offset n = take n (drop offset o.cells)
 
-abbrev pub is_literal : Place → Bool
-is_literal (Literal n) = true
-is_literal _ = false
+-- the cell that a read of one byte reads, and what object it reads
+abbrev pub byte_read : List Object → Value → Result (Cell × Place) Fault
+byte_read memory v = and_then (reached memory v 1) (λ o. Ok (slice_index_or o.cells (offset_in v) (Byte 0), o.place))
 
-abbrev pub if_writable : Result Object Fault → Result Object Fault
-if_writable (Ok o) = if is_literal o.place then Err Undefined else Ok o
-if_writable (Err e) = Err e
+abbrev pub with_place : Place → Value → Result (Value × Place) Fault
+with_place place v = Ok (v, place)
 
--- the object with other cells from an offset on
-abbrev pub with_cells : Object → ℕ → List Cell → Object
-with_cells o offset new = record o { cells = take offset o.cells ++ new ++ drop (offset + length new) o.cells }
+-- the value that a load of a type reads, and what object it reads
+abbrev pub loaded : List Object → TyTree → Value → Result (Value × Place) Fault
+loaded memory ty v = and_then (reached memory v (width ty)) (λ o. and_then (value_in ty (cells_at o (offset_in v) (width ty))) (with_place o.place))
+
+abbrev pub unless_literal : Place → Result Place Fault
+unless_literal (Literal n) = Err Undefined
+unless_literal place = Ok place
+
+-- what object a write of n bytes writes: no literal
+abbrev pub writable : List Object → Value → ℕ → Result Place Fault
+writable memory to n = and_then (reached memory to n) (λ o. unless_literal o.place)
+
+-- cells set one after the other, from a place on
+abbrev pub set_cells : List Cell → ℕ → List Cell → List Cell
+set_cells cells at [] = cells
+set_cells cells at (c ∷ cs) = set_cells (slice_set cells at c) (at + 1) cs
+
+abbrev pub put_cells : List Object → Pointer → List Cell → Option Object → List Object
+put_cells memory p new None = memory
+put_cells memory p new (Some o) = slice_set memory p.object (record o { cells = set_cells o.cells p.offset new })
 
 -- memory with other cells where a value points to
-abbrev pub written : List Object → Value → Object → List Cell → List Object
-written memory (Address p) o new = slice_set memory p.object (with_cells o p.offset new)
-written memory _ o new = memory
+abbrev pub written : List Object → Value → List Cell → List Object
+written memory (Address p) new = put_cells memory p new (slice_get memory p.object)
+written memory _ new = memory
 
 abbrev pub dead_at : List Object → ℕ → Option Object → List Object
 dead_at memory at None = memory

@@ -1,8 +1,11 @@
 -- Integer types and their arithmetic (C11 6.2.5, 6.3.1.3, 6.5.3.3, 6.5.5 to 6.5.14). An integer is the
 -- word that stands for it in two's complement. Where C leaves a choice: sums, differences, products,
 -- shifts and conversions wrap, a shift count is masked, and a signed right shift keeps the sign.
-use Rattle.std.specs.Prelude.{ℕ, ◌+◌, ◌-◌, ◌*◌, ◌%◌, ◌^◌, Bool, true, false, not, ◌&&◌, nat_eq, nat_le, int_lt, int_div, int_rem, bit_and, bit_or, bit_xor, ℤ, pos, negsuc, ◌-ℤ◌, if◌then◌else◌, Result, Ok, Err}
+use Rattle.std.specs.Prelude.{ℕ, ◌+◌, ◌-◌, ◌*◌, ◌/◌, ◌%◌, ◌^◌, Bool, true, false, not, ◌&&◌, nat_eq, int_lt, int_div, int_rem, bit_and, bit_or, bit_xor, ℤ, pos, negsuc, if◌then◌else◌, Result, Ok, Err}
 use Rattle.std.specs.Int.Signed.{shr_z}
+use Rattle.fx_x64_forms.specs.declared.operand.Width.{Width}
+use Rattle.fx_x64_forms.specs.declared.operand.Width.TheVariants.{W8, W16, W32, W64}
+use Rattle.fx_word_ops.specs.Words.{bit_count, half, size, cut, signed, fits, sign_extension_of}
 use Rattle.fx_c_ast.specs.declared.operator.IntType.{IntType}
 use Rattle.fx_c_ast.specs.declared.operator.IntType.TheVariants.{Char, Uchar, Short, Ushort, Int, Uint, Long, Ulong}
 use Rattle.fx_c_ast.specs.declared.operator.Binop.{Binop}
@@ -10,16 +13,16 @@ use Rattle.fx_c_ast.specs.declared.operator.Binop.TheVariants.{Add, Sub, Mul, Di
 use Rattle.fx_c_blocks.specs.declared.fault.Fault.{Fault}
 use Rattle.fx_c_blocks.specs.declared.fault.Fault.TheVariants.{Divide, Undefined}
 
--- the bits of a type's value
-abbrev pub bits : IntType → ℕ
-bits Char = 8
-bits Uchar = 8
-bits Short = 16
-bits Ushort = 16
-bits Int = 32
-bits Uint = 32
-bits Long = 64
-bits Ulong = 64
+-- 8, 16, 32 or 64 bits
+abbrev pub width_of : IntType → Width
+width_of Char = W8
+width_of Uchar = W8
+width_of Short = W16
+width_of Ushort = W16
+width_of Int = W32
+width_of Uint = W32
+width_of Long = W64
+width_of Ulong = W64
 
 -- `char` is signed
 abbrev pub is_signed : IntType → Bool
@@ -32,53 +35,59 @@ is_signed Uint = false
 is_signed Long = true
 is_signed Ulong = false
 
--- a number wrapped into a type
+-- a number wrapped into a type, modulo 2 ^ 8, 2 ^ 16, 2 ^ 32 or 2 ^ 64
 abbrev pub wrapped : IntType → ℕ → ℕ
-wrapped i n = n % 2 ^ bits i
-
-abbrev pub is_negative : IntType → ℕ → Bool
-is_negative i w = is_signed i && nat_le (2 ^ (bits i - 1)) w
+wrapped i n = cut (width_of i) n
 
 -- the number that a word of a type stands for
 abbrev pub number : IntType → ℕ → ℤ
-number i w = if is_negative i w then pos w -ℤ pos (2 ^ bits i) else pos w
+number i w = if is_signed i then signed (half (width_of i)) (wrapped i w) else pos (wrapped i w)
 
--- the word of a type for a number, which wraps
-abbrev pub word : IntType → ℤ → ℕ
-word i (pos n) = wrapped i n
-word i (negsuc n) = 2 ^ bits i - 1 - wrapped i n
+-- the word of a width for a number, which wraps
+abbrev pub word : Width → ℤ → ℕ
+word w (pos n) = cut w n
+word w (negsuc n) = size w - 1 - cut w n
+
+-- the word of 64 bits for the number that a word of a type stands for
+abbrev pub extended : IntType → ℕ → ℕ
+extended i w = if is_signed i then sign_extension_of (width_of i) w else wrapped i w
 
 -- conversion to another type (6.3.1.3)
 abbrev pub converted : IntType → IntType → ℕ → ℕ
-converted from to w = word to (number from w)
+converted from to w = wrapped to (extended from w)
 
 abbrev pub truth : Bool → ℕ
 truth true = 1
 truth false = 0
 
--- whether a number has a word of a type
-abbrev pub has_word : IntType → ℤ → Bool
-has_word i z = if is_signed i then not (int_lt z (pos 0 -ℤ pos (2 ^ (bits i - 1)))) && int_lt z (pos (2 ^ (bits i - 1))) else not (int_lt z (pos 0)) && int_lt z (pos (2 ^ bits i))
+-- whether a quotient has no word of a type: an unsigned one always has
+abbrev pub overflows : IntType → ℤ → Bool
+overflows i quotient = if is_signed i then not (fits (half (width_of i)) quotient) else false
 
--- What a division gives, of whose quotient and divisor b this depends: it is not defined where the divisor
--- is 0 or the quotient does not fit (6.5.5; a remainder too).
+-- a division by b is not defined where b is 0 or the quotient does not fit (6.5.5; a remainder too)
+abbrev pub has_quotient : IntType → ℕ → ℤ → Bool
+has_quotient i b quotient = not (nat_eq (wrapped i b) 0) && not (overflows i quotient)
+
 abbrev pub divided : IntType → ℕ → ℤ → ℤ → Result ℕ Fault
-divided i b quotient answer = if not (nat_eq b 0) && has_word i quotient then Ok (word i answer) else Err Divide
+divided i b quotient answer = if has_quotient i b quotient then Ok (word (width_of i) answer) else Err Divide
 
 -- the bits of a shift count that count: 5 where the shifted operand has 32 bits, 6 where it has 64
 abbrev pub shift_count : IntType → ℕ → ℕ
-shift_count i w = w % bits i
+shift_count i w = w % bit_count (width_of i)
+
+abbrev pub shifted_right : IntType → ℕ → ℕ → ℕ
+shifted_right i a n = if is_signed i then word (width_of i) (shr_z (number i a) (2 ^ n)) else wrapped i a / 2 ^ n
 
 -- An operator at two words of a type; the second of a shift may have another type. `&&` and `||` are no
 -- operators at two values.
 abbrev pub integer_result : Binop → IntType → ℕ → ℕ → Result ℕ Fault
-integer_result Add i a b = Ok (wrapped i (a + b))
-integer_result Sub i a b = Ok (wrapped i (a + (2 ^ bits i - b)))
-integer_result Mul i a b = Ok (wrapped i (a * b))
+integer_result Add i a b = Ok (wrapped i (wrapped i a + wrapped i b))
+integer_result Sub i a b = Ok (wrapped i (wrapped i a + (size (width_of i) - wrapped i b)))
+integer_result Mul i a b = Ok (wrapped i (wrapped i a * wrapped i b))
 integer_result Div i a b = divided i b (int_div (number i a) (number i b)) (int_div (number i a) (number i b))
 integer_result Rem i a b = divided i b (int_div (number i a) (number i b)) (int_rem (number i a) (number i b))
-integer_result Shl i a b = Ok (wrapped i (a * 2 ^ shift_count i b))
-integer_result Shr i a b = Ok (word i (shr_z (number i a) (2 ^ shift_count i b)))
+integer_result Shl i a b = Ok (wrapped i (wrapped i a * 2 ^ shift_count i b))
+integer_result Shr i a b = Ok (shifted_right i a (shift_count i b))
 integer_result Lt i a b = Ok (truth (int_lt (number i a) (number i b)))
 integer_result Gt i a b = Ok (truth (int_lt (number i b) (number i a)))
 integer_result Le i a b = Ok (truth (not (int_lt (number i b) (number i a))))

@@ -1,3 +1,4 @@
 pub mod Integers
+pub mod Divisions
 pub mod Blocks
 pub mod Operators

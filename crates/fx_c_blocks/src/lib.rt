@@ -6,5 +6,9 @@
 #![tactic(auto)]
 
 pub mod block;
+pub mod cells;
 pub mod fault;
+pub mod integers;
+pub mod memory;
+pub mod operators;
 pub mod value;

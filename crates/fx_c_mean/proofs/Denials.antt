@@ -1,9 +1,9 @@
 -- Steps make one operation, and none is denied where everything is granted.
-use Rattle.std.proofs.Common.{◌≡◌, ℕ, Bool, true, false, not, ◌||◌, nat_eq, [], if◌then◌else◌, refl, ap, ◌∙◌, arith}
+use Rattle.std.proofs.Common.{◌≡◌, ℕ, Bool, true, false, not, ◌||◌, nat_eq, [], if◌then◌else◌, refl, ap, ◌∙◌, arith, Ok}
 use Rattle.fx_outcomes.specs.Runs.{Stops}
 use Rattle.fx_c_blocks.specs.declared.block.Place.{Place}
 use Rattle.fx_c_blocks.specs.declared.block.Place.TheVariants.{Global, Literal, Local}
-use Rattle.fx_c_blocks.specs.Blocks.{is_literal}
+use Rattle.fx_c_blocks.specs.Blocks.{unless_literal}
 use Rattle.fx_c_mean.specs.declared.end.End.{End}
 use Rattle.fx_c_mean.specs.declared.rights.Rights.{Rights}
 use Rattle.fx_c_mean.specs.Programs.{Program}
@@ -21,8 +21,8 @@ one_made p r = record {
   goes = λ s. omega arith;
   makes = λ op s. omega arith;
   stops = λ e h. refl;
-  reads = λ s v o done h. chosen IsOneOperation _ done _ h refl;
-  writes = λ s v o done l h. chosen IsOneOperation _ done _ h refl;
+  reads = λ s v place done h. chosen IsOneOperation _ done _ h refl;
+  writes = λ s v place done l h. chosen IsOneOperation _ done _ h refl;
 }
 
 allowed : (b : Bool) (x : Outcome) (e : End) → b ≡ true → IsNotDenied x → IsNotDenied (if b then x else Stops [] e)
@@ -30,13 +30,13 @@ allowed true x e h k = k
 allowed false x e h k = cc
 
 -- where each access is granted that is no write to a literal, no step is denied
-pub none_denied : (p : Program) (r : Rights) → ((s : State) (place : Place) → may p r (actor p r s) place false ≡ true) → ((s : State) (place : Place) → is_literal place ≡ false → may p r (actor p r s) place true ≡ true) → Closed p r IsNotDenied
+pub none_denied : (p : Program) (r : Rights) → ((s : State) (place : Place) → may p r (actor p r s) place false ≡ true) → ((s : State) (place : Place) → unless_literal place ≡ Ok place → may p r (actor p r s) place true ≡ true) → Closed p r IsNotDenied
 none_denied p r reads writes = record {
   goes = λ s. tt;
   makes = λ op s. tt;
   stops = λ e h. h;
-  reads = λ s v o done h. allowed _ done _ (reads s o.place) h;
-  writes = λ s v o done l h. allowed _ done _ (writes s o.place l) h;
+  reads = λ s v place done h. allowed _ done _ (reads s place) h;
+  writes = λ s v place done l h. allowed _ done _ (writes s place l) h;
 }
 
 unguarded : (b : Bool) (x : Bool) → b ≡ false → not b || x ≡ true
@@ -47,7 +47,7 @@ unguarded_local : (b x y z : Bool) → b ≡ false → not b || x || y || z ≡ 
 unguarded_local false x y z e = refl
 unguarded_local true x y z e = cc
 
-pub plain : (p : Program) (r : Rights) (c : ℕ) (place : Place) (write : Bool) → r.guarded ≡ false → (write ≡ true → is_literal place ≡ false) → may p r c place write ≡ true
+pub plain : (p : Program) (r : Rights) (c : ℕ) (place : Place) (write : Bool) → r.guarded ≡ false → (write ≡ true → unless_literal place ≡ Ok place) → may p r c place write ≡ true
 plain p r c (Global n) write g l = unguarded r.guarded _ g
 plain p r c (Literal n) true g l = let h = l refl in cc
 plain p r c (Literal n) false g l = refl
@@ -66,7 +66,7 @@ own false b s x e = refl
 same : (n : ℕ) → nat_eq n n ≡ true
 same n = grind arith
 
-pub one : (p : Program) (r : Rights) (c : ℕ) → IsOneCompartment p r c → (place : Place) (write : Bool) → (write ≡ true → is_literal place ≡ false) → may p r c place write ≡ true
+pub one : (p : Program) (r : Rights) (c : ℕ) → IsOneCompartment p r c → (place : Place) (write : Bool) → (write ≡ true → unless_literal place ≡ Ok place) → may p r c place write ≡ true
 one p r c o (Global n) true l = member r.guarded _ (o.writers n)
 one p r c o (Global n) false l = member r.guarded _ (o.readers n)
 one p r c o (Literal n) true l = let h = l refl in cc

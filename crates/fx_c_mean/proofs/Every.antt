@@ -1,12 +1,16 @@
 -- What holds of every step that holds of each way in which a step comes to its outcome.
-use Rattle.std.proofs.Common.{◌≡◌, ℕ, Bool, true, false, List, [], ◌∷◌, Option, Some, None, Result, Ok, Err, if◌then◌else◌, refl}
+use Rattle.std.proofs.Common.{◌≡◌, ℕ, Bool, true, false, List, [], ◌∷◌, Option, Some, None, Result, Ok, Err, if◌then◌else◌, refl, subst}
 use Rattle.fx_outcomes.specs.Runs.{Goes, Stops}
 use Rattle.fx_base.specs.declared.device_op.DeviceOp.{DeviceOp}
 use Rattle.fx_c_blocks.specs.declared.value.Value.{Value}
 use Rattle.fx_c_blocks.specs.declared.value.Value.TheVariants.{Number}
+use Rattle.fx_c_blocks.specs.declared.value.Cell.{Cell}
+use Rattle.fx_c_blocks.specs.declared.block.Place.{Place}
+use Rattle.fx_c_blocks.specs.declared.block.Place.TheVariants.{Global, Literal, Local}
 use Rattle.fx_c_blocks.specs.declared.fault.Fault.{Fault}
 use Rattle.fx_c_blocks.specs.declared.fault.Fault.TheVariants as fault
-use Rattle.fx_c_blocks.specs.Blocks.{Object, reached, is_literal, if_writable, width, value_in, cells_at, offset_in}
+use Rattle.fx_c_blocks.specs.declared.block.Object.{Object}
+use Rattle.fx_c_blocks.specs.Blocks.{and_then, reached, unless_literal, width, byte_read, loaded, writable}
 use Rattle.fx_c_mean.specs.declared.end.End.{End}
 use Rattle.fx_c_mean.specs.declared.rights.Rights.{Rights}
 use Rattle.fx_c_mean.specs.Programs.{Program, function_at}
@@ -19,8 +23,8 @@ pub record Closed (p : Program) (r : Rights) (P : Outcome → Type 0) : Type 0 w
   pub goes : (s : State) → P (Goes [] s)
   pub makes : (op : DeviceOp) (s : State) → P (Goes (op ∷ []) s)
   pub stops : (e : End) → IsNoDenial e → P (Stops [] e)
-  pub reads : (s : State) (v : Value) (o : Object) (done : Outcome) → P done → P (granted p r s v false o done)
-  pub writes : (s : State) (v : Value) (o : Object) (done : Outcome) → is_literal o.place ≡ false → P done → P (granted p r s v true o done)
+  pub reads : (s : State) (v : Value) (place : Place) (done : Outcome) → P done → P (granted p r s v false place done)
+  pub writes : (s : State) (v : Value) (place : Place) (done : Outcome) → unless_literal place ≡ Ok place → P done → P (granted p r s v true place done)
 
 either : (P : Outcome → Type 0) (b : Bool) (x y : Outcome) → P x → P y → P (if b then x else y)
 either P true x y h k = h
@@ -31,16 +35,23 @@ value p r P c (Ok a) go h = h a
 value p r P c (Err fault.Divide) go h = c.stops _ tt
 value p r P c (Err fault.Undefined) go h = c.stops _ tt
 
-writable : (p : Program) (r : Rights) (P : Outcome → Type 0) → Closed p r P → (x : Result Object Fault) (go : Object → Outcome) → ((o : Object) → is_literal o.place ≡ false → P (go o)) → P (if_value (if_writable x) go)
-writable p r P c (Err fault.Divide) go h = c.stops _ tt
-writable p r P c (Err fault.Undefined) go h = c.stops _ tt
-writable p r P c (Ok o) go h = by (is_literal o.place) refl where
-  by : (b : Bool) → is_literal o.place ≡ b → P (if_value (if b then Err fault.Undefined else Ok o) go)
-  by true e = c.stops _ tt
-  by false e = h o e
+unless : (place : Place) (named : Place) → unless_literal place ≡ Ok named → unless_literal named ≡ Ok named
+unless (Literal n) named e = cc
+unless (Global n) named e = let h : Global n ≡ named = cc in subst (λ x. unless_literal x ≡ Ok x) h refl
+unless (Local f n) named e = let h : Local f n ≡ named = cc in subst (λ x. unless_literal x ≡ Ok x) h refl
 
-stored : (p : Program) (r : Rights) (P : Outcome → Type 0) → Closed p r P → (s : State) (to : Value) (cells : _) (next : Spot) → P (stores p r s to cells next)
-stored p r P c s to cells next = writable p r P c _ _ (λ o e. c.writes s to o _ e (c.goes _))
+to_write : (x : Result Object Fault) (place : Place) → and_then x (λ o. unless_literal o.place) ≡ Ok place → unless_literal place ≡ Ok place
+to_write (Ok o) place e = unless o.place place e
+to_write (Err f) place e = cc
+
+value_is : (p : Program) (r : Rights) (P : Outcome → Type 0) → Closed p r P → {A : Type 0} (x : Result A Fault) (go : A → Outcome) → ((a : A) → x ≡ Ok a → P (go a)) → P (if_value x go)
+value_is p r P c (Ok a) go h = h a refl
+value_is p r P c (Err fault.Divide) go h = c.stops _ tt
+value_is p r P c (Err fault.Undefined) go h = c.stops _ tt
+
+stored : (p : Program) (r : Rights) (P : Outcome → Type 0) → Closed p r P → (s : State) (to : Value) (bytes : ℕ) (cells : List Cell) (next : Spot) → P (stores p r s to bytes cells next)
+stored p r P c s to bytes cells next =
+    value_is p r P c (writable s.memory to bytes) _ (λ place e. c.writes s to place _ (to_write (reached s.memory to bytes) place e) (c.goes _))
 
 resumed : (p : Program) (r : Rights) (P : Outcome → Type 0) → Closed p r P → (s : State) (left : Thread) (t : ℕ) (x : Option Thread) → P (resume s left t x)
 resumed p r P c s left t (Some (Waiting spot call)) = c.goes _
@@ -69,8 +80,7 @@ performed p r P c answer s (Does (SizeOf ty) rest) = c.goes _
 performed p r P c answer s (Does (GlobalAddress n) rest) = c.goes _
 performed p r P c answer s (Does (LiteralAddress n) rest) = c.goes _
 performed p r P c answer s (Does (LocalAddress n) rest) = c.goes _
-performed p r P c answer s (Does (Load ty v) rest) =
-    value p r P c (reached s.memory v (width ty)) _ (λ o. value p r P c {A = Value} (value_in ty (cells_at o (offset_in v) (width ty))) _ (λ w. c.reads s v o _ (c.goes (record s { spot = give w rest }))))
+performed p r P c answer s (Does (Load ty v) rest) = value p r P c (loaded s.memory ty v) _ (λ x. c.reads s v x.1 _ (c.goes (record s { spot = give x.0 rest })))
 performed p r P c answer s (Does (Apply op ty v) rest) = value p r P c _ _ (λ w. c.goes _)
 performed p r P c answer s (Does (Convert from to v) rest) = value p r P c _ _ (λ w. c.goes _)
 performed p r P c answer s (Does (Step struct member v) rest) = value p r P c _ _ (λ w. c.goes _)
@@ -83,9 +93,9 @@ performed p r P c answer s (Does (Tell device register v) rest) = tells p r P c 
 performed p r P c answer s (Does (Spawn f v) rest) = either P _ _ _ (c.goes _) (c.stops _ tt)
 performed p r P c answer s (Does (Switch v) rest) = switched p r P c s rest v
 performed p r P c answer s (Does Self rest) = c.goes _
-performed p r P c answer s (Does (Store ty to v) rest) = stored p r P c s to _ _
-performed p r P c answer s (Does (ReadByte ty to v done) rest) = value p r P c _ _ (λ o. c.reads s (further v done) o _ (c.goes _))
-performed p r P c answer s (Does (WriteByte ty to v done cell) rest) = stored p r P c s _ _ _
+performed p r P c answer s (Does (Store ty to v) rest) = stored p r P c s to (width ty) _ _
+performed p r P c answer s (Does (ReadByte ty to v done) rest) = value p r P c (byte_read s.memory (further v done)) _ (λ x. c.reads s (further v done) x.1 _ (c.goes (record s { spot = Does (WriteByte ty to v done x.0) rest })))
+performed p r P c answer s (Does (WriteByte ty to v done cell) rest) = stored p r P c s (further to done) 1 _ _
 performed p r P c answer s (Does (Branch v s1 other) rest) = c.goes _
 performed p r P c answer s (Does (Test v loop) rest) = c.goes _
 performed p r P c answer s (Does (JumpBack loop) rest) = c.goes _

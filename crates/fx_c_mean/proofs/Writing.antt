@@ -4,8 +4,10 @@ use Rattle.fx_outcomes.specs.Runs.{Goes, Stops}
 use Rattle.fx_c_blocks.specs.declared.value.Value.{Value}
 use Rattle.fx_c_blocks.specs.declared.value.Value.TheVariants.{Void, Number}
 use Rattle.fx_c_blocks.specs.declared.value.Cell.{Cell}
+use Rattle.fx_c_blocks.specs.declared.block.Place.{Place}
 use Rattle.fx_c_blocks.specs.declared.fault.Fault.{Fault}
-use Rattle.fx_c_blocks.specs.Blocks.{Object, reached, width, value_in, cells_at, offset_in, cells_of, written, if_writable, moved}
+use Rattle.fx_c_blocks.specs.declared.block.Object.{Object}
+use Rattle.fx_c_blocks.specs.Blocks.{width, byte_read, loaded, writable, offset_in, cells_of, written, moved}
 use Rattle.fx_c_blocks.specs.Operators.{unary_result, conversion, binary_result}
 use Rattle.fx_c_mean.specs.declared.end.End.TheVariants.{Denied, ThreadsFull}
 use Rattle.fx_c_mean.specs.Rights.{may}
@@ -28,11 +30,12 @@ value : (s : State) (P : List Object → Type 0) → {A : Type 0} (x : Result A 
 value s P (Ok a) go h = h a
 value s P (Err e) go h = tt
 
-access_granted : (p : Program) (r : Rights) (s : State) (P : List Object → Type 0) (v : Value) (write : Bool) (o : Object) (done : Outcome) → After s P done → After s P (granted p r s v write o done)
-access_granted p r s P v write o done h = either (After s P) (may p r (actor p r s) o.place write) done (Stops [] (Denied (actor p r s) o.place (offset_in v) write)) h (tt {0})
+access_granted : (p : Program) (r : Rights) (s : State) (P : List Object → Type 0) (v : Value) (write : Bool) (place : Place) (done : Outcome) → After s P done → After s P (granted p r s v write place done)
+access_granted p r s P v write place done h = either (After s P) (may p r (actor p r s) place write) done (Stops [] (Denied (actor p r s) place (offset_in v) write)) h (tt {0})
 
-stored : (p : Program) (r : Rights) (s : State) (to : Value) (cells : List Cell) (next : Spot) → After s (Writes (access true to (length cells)) s.memory) (stores p r s to cells next)
-stored p r s to cells next = value s (Writes (access true to (length cells)) s.memory) (if_writable (reached s.memory to (length cells))) _ (λ o. access_granted p r s (Writes (access true to (length cells)) s.memory) to true o (Goes [] (record s { memory = written s.memory to o cells; spot = next })) (o, cells, refl, refl))
+stored : (p : Program) (r : Rights) (s : State) (to : Value) (bytes : ℕ) (cells : List Cell) (next : Spot) → After s (Writes (access true to bytes) s.memory) (stores p r s to bytes cells next)
+stored p r s to bytes cells next = value s (Writes (access true to bytes) s.memory) (writable s.memory to bytes) _
+    (λ place. access_granted p r s (Writes (access true to bytes) s.memory) to true place (Goes [] (record s { memory = written s.memory to cells; spot = next })) (cells, refl))
 
 resumed : (s : State) (left : Thread) (t : ℕ) (x : Option Thread) → After s (λ m. m ≡ s.memory) (resume s left t x)
 resumed s left t (Some (Waiting spot call)) = refl
@@ -63,8 +66,7 @@ by_access p r answer s (Does (GlobalAddress n) rest) other = refl
 by_access p r answer s (Does (LiteralAddress n) rest) other = refl
 by_access p r answer s (Does (LocalAddress n) rest) other = refl
 by_access p r answer s (Does (Load ty v) rest) other =
-    value s (λ m. m ≡ s.memory) (reached s.memory v (width ty)) _ (λ o. value s (λ m. m ≡ s.memory) {A = Value} (value_in ty (cells_at o (offset_in v) (width ty))) _
-    (λ w. access_granted p r s (λ m. m ≡ s.memory) v false o (gives s rest w) refl))
+    value s (λ m. m ≡ s.memory) (loaded s.memory ty v) _ (λ x. access_granted p r s (λ m. m ≡ s.memory) v false x.1 (gives s rest x.0) refl)
 by_access p r answer s (Does (Apply op ty v) rest) other = kept s rest (unary_result op ty v)
 by_access p r answer s (Does (Convert from to v) rest) other = kept s rest (conversion s.memory from to v)
 by_access p r answer s (Does (Step struct member v) rest) other = kept s rest (moved s.memory v (member_of p struct member))
@@ -77,10 +79,10 @@ by_access p r answer s (Does (Tell device register v) rest) other = tells s rest
 by_access p r answer s (Does (Spawn f v) rest) other = spawned s rest f v
 by_access p r answer s (Does (Switch v) rest) other = switched s rest v
 by_access p r answer s (Does Self rest) other = refl
-by_access p r answer s (Does (Store ty to v) rest) other = stored p r s to (cells_of (width ty) v) (follow rest)
-by_access p r answer s (Does (ReadByte ty to v done) rest) other = value s (λ m. m ≡ s.memory) (reached s.memory (further v done) 1) _ (λ o. access_granted p r s (λ m. m ≡ s.memory) (further v done) false o
-    (at s (Does (WriteByte ty to v done (cells_at o (offset_in (further v done)) 1)) rest)) refl)
-by_access p r answer s (Does (WriteByte ty to v done cell) rest) other = stored p r s (further to done) cell (next_byte p rest ty to v (done + 1))
+by_access p r answer s (Does (Store ty to v) rest) other = stored p r s to (width ty) (cells_of (width ty) v) (follow rest)
+by_access p r answer s (Does (ReadByte ty to v done) rest) other =
+    value s (λ m. m ≡ s.memory) (byte_read s.memory (further v done)) _ (λ x. access_granted p r s (λ m. m ≡ s.memory) (further v done) false x.1 (at s (Does (WriteByte ty to v done x.0) rest)) refl)
+by_access p r answer s (Does (WriteByte ty to v done cell) rest) other = stored p r s (further to done) 1 (cell ∷ []) (next_byte p rest ty to v (done + 1))
 by_access p r answer s (Does (Branch v s1 s2) rest) other = refl
 by_access p r answer s (Does (Test v loop) rest) other = refl
 by_access p r answer s (Does (JumpBack loop) rest) other = refl

@@ -5,7 +5,8 @@ use Rattle.fx_outcomes.specs.Runs as runs
 use Rattle.fx_outcomes.specs.Keeping.{IsPrefix}
 use Rattle.fx_c_blocks.specs.declared.value.Value.{Value}
 use Rattle.fx_c_blocks.specs.declared.value.Cell.{Cell}
-use Rattle.fx_c_blocks.specs.Blocks.{Object, width, cells_of, written}
+use Rattle.fx_c_blocks.specs.declared.block.Object.{Object}
+use Rattle.fx_c_blocks.specs.Blocks.{width, written}
 use Rattle.fx_c_mean.specs.declared.end.End.{End}
 use Rattle.fx_c_mean.specs.declared.end.End.TheVariants.{Denied}
 use Rattle.fx_c_mean.specs.declared.rights.Rights.{Rights}
@@ -44,9 +45,9 @@ access write v n = Some (record { write = write; at = v; bytes = n })
 
 abbrev pub access_at : Spot → Option Access
 access_at (Does (Load ty v) rest) = access false v (width ty)
-access_at (Does (Store ty to v) rest) = access true to (length (cells_of (width ty) v))
+access_at (Does (Store ty to v) rest) = access true to (width ty)
 access_at (Does (ReadByte ty to v done) rest) = access false (further v done) 1
-access_at (Does (WriteByte ty to v done cell) rest) = access true (further to done) (length cell)
+access_at (Does (WriteByte ty to v done cell) rest) = access true (further to done) 1
 access_at (Does _ rest) = None
 
 -- the access that the step makes, if it makes one
@@ -62,7 +63,7 @@ IsCallOrReturn (Does FallOff rest) = Unit {0}
 IsCallOrReturn (Does _ rest) = ⊥
 
 abbrev pub Writes : Option Access → List Object → List Object → Type 0
-Writes (Some a) before after = elim a.write as (λ _. Type 0) [ true ↦ (o : Object) × (cells : List Cell) × (length cells ≡ a.bytes) × (after ≡ written before a.at o cells) | false ↦ after ≡ before ]
+Writes (Some a) before after = elim a.write as (λ _. Type 0) [ true ↦ (cells : List Cell) × (after ≡ written before a.at cells) | false ↦ after ≡ before ]
 Writes None before after = after ≡ before
 
 abbrev pub ChangesByAccess : State → Outcome → Type 0

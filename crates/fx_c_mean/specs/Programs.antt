@@ -1,5 +1,5 @@
 -- A checked program as plain data: what the steps of its run look at.
-use Rattle.std.specs.Prelude.{ℕ, ◌+◌, ◌-◌, Bool, true, List, [], ◌∷◌, ◌++◌, length, map, take, slice_index_or}
+use Rattle.std.specs.Prelude.{ℕ, ◌+◌, ◌-◌, Bool, true, List, [], ◌∷◌, ◌++◌, length, map, take, replicate, slice_index_or}
 use Rattle.fx_c_ast.specs.declared.parsed.Init.{Init}
 use Rattle.fx_c_ast.specs.declared.parsed.Init.TheVariants as init
 use Rattle.fx_c_ast.specs.declared.checked.TLocal.{TLocal}
@@ -14,7 +14,8 @@ use Rattle.fx_c_blocks.specs.declared.value.Cell.TheVariants.{Byte}
 use Rattle.fx_c_blocks.specs.declared.value.Value.{Value}
 use Rattle.fx_c_blocks.specs.declared.block.Place.{Place}
 use Rattle.fx_c_blocks.specs.declared.block.Place.TheVariants.{Global, Literal, Local}
-use Rattle.fx_c_blocks.specs.Blocks.{Object, bytes_of, cells_of}
+use Rattle.fx_c_blocks.specs.declared.block.Object.{Object}
+use Rattle.fx_c_blocks.specs.Blocks.{bytes_of, cells_of}
 
 pub record Variable : Type 0 where
   pub shared : Bool
@@ -73,22 +74,25 @@ offset_of p n member =
 abbrev pub byte_cells : List ℕ → List Cell
 byte_cells bytes = map Byte bytes
 
+abbrev pub zeros : ℕ → List Cell
+zeros n = replicate n (Byte 0)
+
 -- a global's bytes before the run: zeros, a number cut to its type, or a string with zeros behind it (6.7.9)
 abbrev pub first_cells : ℕ → Init → List Cell
-first_cells size init.Zero = bytes_of size 0
+first_cells size init.Zero = zeros size
 first_cells size (init.Number n) = bytes_of size n
-first_cells size (init.Text bytes) = take size (byte_cells bytes ++ bytes_of (size - length bytes) 0)
+first_cells size (init.Text bytes) = take size (byte_cells bytes ++ zeros (size - length bytes))
 
-abbrev pub live_object : Place → List Cell → Object
-live_object place cells = record { place = place; size = length cells; live = true; cells = cells }
+abbrev pub live_object : Place → ℕ → List Cell → Object
+live_object place size cells = record { place = place; size = size; live = true; cells = cells }
 
 abbrev pub global_objects : Program → ℕ → List GlobalVariable → List Object
 global_objects p n [] = []
-global_objects p n (g ∷ gs) = live_object (Global n) (first_cells (size_in p g.ty) g.init) ∷ global_objects p (n + 1) gs
+global_objects p n (g ∷ gs) = live_object (Global n) (size_in p g.ty) (first_cells (size_in p g.ty) g.init) ∷ global_objects p (n + 1) gs
 
 abbrev pub literal_objects : ℕ → List (List ℕ) → List Object
 literal_objects n [] = []
-literal_objects n (bytes ∷ all) = live_object (Literal n) (byte_cells bytes) ∷ literal_objects (n + 1) all
+literal_objects n (bytes ∷ all) = live_object (Literal n) (length bytes) (byte_cells bytes) ∷ literal_objects (n + 1) all
 
 -- memory before the run: the globals, then the literals
 abbrev pub first_memory : Program → List Object
@@ -97,5 +101,5 @@ first_memory p = global_objects p 0 p.globals ++ literal_objects 0 p.literals
 -- the objects of a call: a parameter has its argument's value, and every other variable is zero
 abbrev pub call_objects : Program → ℕ → ℕ → List Variable → List Value → List Object
 call_objects p f n [] values = []
-call_objects p f n (x ∷ xs) [] = live_object (Local f n) (bytes_of (size_in p x.ty) 0) ∷ call_objects p f (n + 1) xs []
-call_objects p f n (x ∷ xs) (v ∷ vs) = live_object (Local f n) (cells_of (size_in p x.ty) v) ∷ call_objects p f (n + 1) xs vs
+call_objects p f n (x ∷ xs) [] = live_object (Local f n) (size_in p x.ty) (zeros (size_in p x.ty)) ∷ call_objects p f (n + 1) xs []
+call_objects p f n (x ∷ xs) (v ∷ vs) = live_object (Local f n) (size_in p x.ty) (cells_of (size_in p x.ty) v) ∷ call_objects p f (n + 1) xs vs

@@ -11,7 +11,8 @@ use Rattle.fx_c_ast.specs.declared.operator.Unop.TheVariants.{Deref, Addr}
 use Rattle.fx_c_ast.specs.declared.operator.Binop.{Binop}
 use Rattle.fx_c_ast.specs.declared.operator.Binop.TheVariants.{Add, Land, Lor}
 use Rattle.fx_c_ast.specs.CheckedTrees.{TyTree, VoidTy, IntTy, StructTy, PtrTy, ArrayTy, TExprTree, ENumber, ELiteral, EGlobal, ELocal, EUn, EBin, ECast, EConvert, ESize, EIndex, EMember, EArrow, ECall, EGate, EGetc, EPutc, EDevLoad, EDevStore, ESpawn, ESwitch, EMe, TExprTrees, NoTExprs, MoreTExprs, TStmtTree, SEmpty, SBlock, SLocal, SEval, SAssign, SIf, SWhile, SFor, SBreak, SContinue, SReturn, TStmtTrees, NoTStmts, MoreTStmts, MaybeTStmt, NoTStmt, OneTStmt}
-use Rattle.fx_c_blocks.specs.Integers.{bits, is_signed}
+use Rattle.fx_word_ops.specs.Words.{bit_count}
+use Rattle.fx_c_blocks.specs.Integers.{width_of, is_signed}
 use Rattle.fx_c_blocks.specs.declared.value.Value.{Value}
 use Rattle.fx_c_blocks.specs.declared.value.Value.TheVariants.{Number}
 use Rattle.fx_c_blocks.specs.declared.value.Cell.{Cell}
@@ -88,7 +89,7 @@ pub data Act : Type 0 where
   Store : (ty : TyTree) (to v : Value) → Act
   -- of the struct copy of a type, with so many bytes copied: the read of a byte, and its write
   ReadByte : (ty : TyTree) (to v : Value) (done : ℕ) → Act
-  WriteByte : (ty : TyTree) (to v : Value) (done : ℕ) (cell : List Cell) → Act
+  WriteByte : (ty : TyTree) (to v : Value) (done : ℕ) (cell : Cell) → Act
   Branch : (v : Value) (s : TStmtTree) (other : MaybeTStmt) → Act
   Test : (v : Value) (loop : Loop) → Act
   JumpBack : (loop : Loop) → Act
@@ -148,7 +149,7 @@ is_scalar (PtrTy t) = true
 is_scalar _ = false
 
 abbrev pub same_integer : IntType → IntType → Bool
-same_integer i j = nat_eq (bits i) (bits j) && beq (is_signed i) (is_signed j)
+same_integer i j = nat_eq (bit_count (width_of i)) (bit_count (width_of j)) && beq (is_signed i) (is_signed j)
 
 abbrev pub same_type : TyTree → TyTree → Bool
 same_type VoidTy VoidTy = true

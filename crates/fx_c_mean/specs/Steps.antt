@@ -9,12 +9,14 @@ use Rattle.fx_c_ast.specs.CheckedTrees.{TyTree, IntTy, StructTy, PtrTy, TExprTre
 use Rattle.fx_c_blocks.specs.declared.value.Value.{Value}
 use Rattle.fx_c_blocks.specs.declared.value.Value.TheVariants.{Void, Number, Null, Address}
 use Rattle.fx_c_blocks.specs.declared.value.Cell.{Cell}
+use Rattle.fx_c_blocks.specs.declared.block.Place.{Place}
 use Rattle.fx_c_blocks.specs.declared.fault.Fault.{Fault}
 use Rattle.fx_c_blocks.specs.declared.fault.Fault.TheVariants as fault
 use Rattle.fx_c_mean.specs.declared.end.End.{End}
 use Rattle.fx_c_mean.specs.declared.end.End.TheVariants.{Exit, Denied, StackFull, Divide, BadThread, ThreadsFull, Undefined}
 use Rattle.fx_c_blocks.specs.Integers.{number, converted}
-use Rattle.fx_c_blocks.specs.Blocks.{Object, value_in, cells_of, width, reached, if_writable, offset_in, cells_at, written, without, moved}
+use Rattle.fx_c_blocks.specs.declared.block.Object.{Object}
+use Rattle.fx_c_blocks.specs.Blocks.{cells_of, width, offset_in, byte_read, loaded, writable, written, without, moved}
 use Rattle.fx_c_blocks.specs.Operators.{unary_result, conversion, binary_result}
 use Rattle.fx_c_mean.specs.declared.rights.Rights.{Rights}
 use Rattle.fx_c_mean.specs.Programs.{Program, function_at, size_in, offset_of, first_memory, call_objects}
@@ -63,25 +65,21 @@ gives_result s rest result = if_value result (λ v. gives s rest v)
 abbrev pub actor : Program → Rights → State → ℕ
 actor p r s = home p r s.call.function
 
--- an access that a compartment is not granted ends the run
-abbrev pub granted : Program → Rights → State → Value → Bool → Object → Outcome → Outcome
-granted p r s v write o done =
-    if may p r (actor p r s) o.place write then done
-    else Stops [] (Denied (actor p r s) o.place (offset_in v) write)
+-- an access that the compartment is not granted ends the run
+abbrev pub granted : Program → Rights → State → Value → Bool → Place → Outcome → Outcome
+granted p r s v write place done =
+    if may p r (actor p r s) place write then done
+    else Stops [] (Denied (actor p r s) place (offset_in v) write)
 
 -- a load: the object must hold the bytes, they must hold a value of the type, and then the read must be
 -- granted
 abbrev pub loads : Program → Rights → State → List Frame → TyTree → Value → Outcome
-loads p r s rest ty v =
-    if_value (reached s.memory v (width ty)) (λ o.
-    if_value (value_in ty (cells_at o (offset_in v) (width ty))) (λ w.
-    granted p r s v false o (gives s rest w)))
+loads p r s rest ty v = if_value (loaded s.memory ty v) (λ x. granted p r s v false x.1 (gives s rest x.0))
 
--- a write of cells: the object must hold them and be no literal, and then the write must be granted
-abbrev pub stores : Program → Rights → State → Value → List Cell → Spot → Outcome
-stores p r s to cells next =
-    if_value (if_writable (reached s.memory to (length cells))) (λ o.
-    granted p r s to true o (Goes [] (record s { memory = written s.memory to o cells; spot = next })))
+-- a write of so many bytes: the object must hold them and be no literal, and then the write must be granted
+abbrev pub stores : Program → Rights → State → Value → ℕ → List Cell → Spot → Outcome
+stores p r s to bytes cells next =
+    if_value (writable s.memory to bytes) (λ place. granted p r s to true place (Goes [] (record s { memory = written s.memory to cells; spot = next })))
 
 -- so many bytes on in an object
 abbrev pub further : Value → ℕ → Value
@@ -90,8 +88,7 @@ further v n = v
 
 abbrev pub reads_byte : Program → Rights → State → List Frame → TyTree → Value → Value → ℕ → Outcome
 reads_byte p r s rest ty to v done =
-    if_value (reached s.memory (further v done) 1) (λ o.
-    granted p r s (further v done) false o (at s (Does (WriteByte ty to v done (cells_at o (offset_in (further v done)) 1)) rest)))
+    if_value (byte_read s.memory (further v done)) (λ x. granted p r s (further v done) false x.1 (at s (Does (WriteByte ty to v done x.0) rest)))
 
 abbrev pub next_byte : Program → List Frame → TyTree → Value → Value → ℕ → Spot
 next_byte p rest ty to v done = if nat_lt done (size_in p ty) then Does (ReadByte ty to v done) rest else follow rest
@@ -254,9 +251,9 @@ perform p r answer s (Does (Tell device register v) rest) = told s rest device r
 perform p r answer s (Does (Spawn f v) rest) = spawn s rest f v
 perform p r answer s (Does (Switch v) rest) = switch s rest v
 perform p r answer s (Does Self rest) = gives s rest (Number s.current)
-perform p r answer s (Does (Store ty to v) rest) = stores p r s to (cells_of (width ty) v) (follow rest)
+perform p r answer s (Does (Store ty to v) rest) = stores p r s to (width ty) (cells_of (width ty) v) (follow rest)
 perform p r answer s (Does (ReadByte ty to v done) rest) = reads_byte p r s rest ty to v done
-perform p r answer s (Does (WriteByte ty to v done cell) rest) = stores p r s (further to done) cell (next_byte p rest ty to v (done + 1))
+perform p r answer s (Does (WriteByte ty to v done cell) rest) = stores p r s (further to done) 1 (cell ∷ []) (next_byte p rest ty to v (done + 1))
 perform p r answer s (Does (Branch v s1 other) rest) = at s (branch (is_true v) s1 other rest)
 perform p r answer s (Does (Test v loop) rest) = at s (tested (is_true v) loop rest)
 perform p r answer s (Does (JumpBack loop) rest) = at s (begin_loop loop rest)
