@@ -1,0 +1,9 @@
+//! Types as they are written, and their sizes.
+#![tactic(auto)]
+
+pub mod copies;
+pub mod heads;
+pub mod sizes;
+#[cfg(test)]
+mod tests;
+pub mod written;
