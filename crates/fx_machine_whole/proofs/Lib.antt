@@ -1,0 +1,9 @@
+pub mod Spaces
+pub mod ByPlace
+pub mod Reach
+pub mod Held
+pub mod Holding
+pub mod Performing
+pub mod Turning
+pub mod Ends
+pub mod Lines

@@ -1,0 +1,7 @@
+pub mod Agree
+pub mod Reaching
+pub mod Memory
+pub mod Acting
+pub mod Turns
+pub mod Operations
+pub mod Lines

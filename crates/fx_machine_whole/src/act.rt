@@ -1,0 +1,293 @@
+//! What one instruction does to registers and memory.
+
+ghost use Rattle.std.specs.Prelude.{◌≡◌, ◌≢◌, ◌+◌, ◌<◌, None, length};
+ghost use Rattle.fx_cpu.specs.Registers.{past};
+ghost use Rattle.fx_cpu.specs.Does.{need, finish};
+ghost use Rattle.fx_image.specs.Rules.{IsImage};
+ghost use Rattle.fx_machine.specs.Moves.{holder, domain_of, trapped, refused, operation, perform, move};
+ghost use Rattle.fx_machine_whole.specs.Acting.{world, ActsBy};
+ghost use Rattle.fx_machine_whole.specs.Agree.{Agrees};
+ghost use Rattle.fx_machine_whole.specs.Lines.{IsDecoded};
+ghost use Rattle.fx_machine_whole.specs.Memory.{memory_of, IsLaidOut};
+
+use crate::check::{Reach, look};
+use crate::code::Code;
+use crate::fetch::fetch;
+use crate::layout::is_ept;
+use crate::memory::Memory;
+use crate::pages::Pages;
+use fx_base::DeviceOp;
+use fx_cpu::finish::complete;
+use fx_cpu::need::{Need, need_of};
+use fx_cpu::registers::Regs;
+use fx_cpu::trap::Trap;
+use fx_image::{Comp, Image};
+use fx_machine::fetched::Fetched;
+use fx_machine::layout::is_keyed;
+use fx_machine::stop::Stop;
+use fx_vm_pages::access::{Access, Refusal};
+use fx_vm_pages::entry::Pkru;
+use fx_x64_forms::inst::Inst;
+use fx_x64_forms::operand::{Reg, Width};
+
+/// What came of an instruction.
+#[derive(Clone, Copy, Debug, PartialEq, Eq)]
+pub enum Act {
+    /// It is done.
+    Done,
+    /// It is this operation on a device, which isn't made yet, and nothing has changed. The value of a
+    /// load isn't known yet.
+    Operation {
+        inst: Inst,
+        length: u64,
+        op: DeviceOp,
+    },
+    /// It stops the machine, and nothing has changed.
+    Halts(Stop),
+}
+
+/// The compartment whose PKRU value is held, of those from number c on, 255 where none is.
+fn holder(compartments: &[Comp], c: u8, pkru: u32) -> u8
+    requires { c + length compartments.now < 256 }
+    ensures { result ≡ holder compartments.now c pkru }
+{
+    match compartments {
+        [] => 255,
+        [compartment, rest @ ..] => {
+            if compartment.pkru == pkru {
+                c
+            } else {
+                holder(rest, c + 1, pkru)
+            }
+        }
+    }
+}
+
+/// Who acts: the virtual machine where each compartment is one, the compartment whose PKRU value is held
+/// where keys part them, else 255.
+fn domain_of(image: &Image, vcpu: u8, pkru: Pkru) -> u8
+    requires { IsImage image.now }
+    ensures { result ≡ domain_of image.now vcpu pkru }
+{
+    if is_ept(image) {
+        vcpu
+    } else if is_keyed(image) {
+        holder(image.compartments.as_slice(), 0, pkru.0)
+    } else {
+        255
+    }
+}
+
+/// The stop of HLT, by RAX.
+fn halted(r: &Regs) -> Stop
+    ensures { result ≡ trapped Trap.Halt r.now }
+{
+    match r.get(Reg::Rax) {
+        0 => Stop::Exit(r.get(Reg::Rdi).cast_signed()),
+        1 => Stop::StackFull {
+            thread: r.get(Reg::Rdi),
+            stack: r.get(Reg::Rsi),
+        },
+        2 => Stop::BadThread,
+        3 => Stop::ThreadsFull,
+        _ => Stop::Aborted,
+    }
+}
+
+/// The stop of an instruction that isn't done, whatever memory says.
+fn trapped(trap: Trap, r: &Regs) -> Stop
+    ensures { result ≡ trapped trap r.now }
+{
+    match trap {
+        Trap::Halt => halted(r),
+        Trap::Protection => Stop::Protection,
+        Trap::Divide => Stop::Divide,
+        Trap::Page { .. } | Trap::Invalid | Trap::Outside(_) => Stop::Invalid,
+    }
+}
+
+/// The stop of a refused access.
+fn refused(image: &Image, vcpu: u8, pkru: Pkru, access: Access, first: (u64, Refusal)) -> Stop
+    requires { IsImage image.now }
+    ensures { result ≡ refused image.now vcpu pkru access first }
+{
+    Stop::Page {
+        vcpu,
+        domain: domain_of(image, vcpu, pkru),
+        address: first.0,
+        access,
+        refusal: first.1,
+    }
+}
+
+/// Puts the registers as they are after an instruction of a length, where v was read.
+#[inline]
+pub fn finish(inst: &Inst, len: u64, r: &mut Regs, v: u64)
+    ensures { r.new ≡ finish inst.now (past r.old len) v }
+{
+    r.rip = r.rip.wrapping_add(len);
+    complete(inst, r, v);
+}
+
+/// The operation of an access to a device's register.
+fn operation(device: u16, address: u64, write: bool, value: u64) -> DeviceOp
+    ensures { result ≡ operation device address write value }
+{
+    DeviceOp {
+        device,
+        reg: (address % 4096 / 8) as u16,
+        write,
+        value,
+    }
+}
+
+/// Does an instruction that loads.
+#[inline]
+fn read(
+    image: &Image,
+    pages: &mut Pages,
+    memory: &Memory,
+    vcpu: u8,
+    r: &mut Regs,
+    inst: &Inst,
+    length: u64,
+    width: Width,
+    address: u64,
+) -> Act
+    requires whole { IsImage image.now }
+    requires few { vcpu < 16 }
+    requires agree { Agrees image.now pages.old }
+    requires asks { need inst.now (past r.old length) ≡ Need.Reads width address }
+    ensures acts { ActsBy (λ answers. perform image.now vcpu inst.now length r.old (world (memory_of image.now memory.now) answers)) r.old (memory_of image.now memory.now) result r.new (memory_of image.now memory.now) }
+    ensures agree { Agrees image.now pages.new }
+{
+    match look(
+        pages,
+        image,
+        vcpu,
+        r.pkru,
+        Access::Read,
+        address,
+        width.bytes(),
+    ) {
+        Reach::Memory => {
+            let value = memory.word_at(image, width, address);
+            finish(inst, length, r, value);
+            Act::Done
+        }
+        Reach::Device(device) => Act::Operation {
+            inst: *inst,
+            length,
+            op: operation(device, address, false, 0),
+        },
+        Reach::Refused(first) => Act::Halts(refused(image, vcpu, r.pkru, Access::Read, first)),
+    }
+}
+
+/// Does an instruction that stores.
+#[inline]
+fn write(
+    image: &Image,
+    pages: &mut Pages,
+    memory: &mut Memory,
+    vcpu: u8,
+    r: &mut Regs,
+    inst: &Inst,
+    length: u64,
+    width: Width,
+    address: u64,
+    value: u64,
+) -> Act
+    requires whole { IsImage image.now }
+    requires few { vcpu < 16 }
+    requires agree { Agrees image.now pages.old }
+    requires laid { IsLaidOut image.now memory.old }
+    requires asks { need inst.now (past r.old length) ≡ Need.Writes width address value }
+    ensures acts { ActsBy (λ answers. perform image.now vcpu inst.now length r.old (world (memory_of image.now memory.old) answers)) r.old (memory_of image.now memory.old) result r.new (memory_of image.now memory.new) }
+    ensures agree { Agrees image.now pages.new }
+    ensures laid { IsLaidOut image.now memory.new }
+{
+    match look(
+        pages,
+        image,
+        vcpu,
+        r.pkru,
+        Access::Write,
+        address,
+        width.bytes(),
+    ) {
+        Reach::Memory => {
+            memory.store(width, address, value);
+            finish(inst, length, r, 0);
+            Act::Done
+        }
+        Reach::Device(device) => Act::Operation {
+            inst: *inst,
+            length,
+            op: operation(device, address, true, value),
+        },
+        Reach::Refused(first) => Act::Halts(refused(image, vcpu, r.pkru, Access::Write, first)),
+    }
+}
+
+/// Does an instruction of a length.
+#[inline]
+fn perform(
+    image: &Image,
+    pages: &mut Pages,
+    memory: &mut Memory,
+    vcpu: u8,
+    r: &mut Regs,
+    inst: &Inst,
+    length: u64,
+) -> Act
+    requires whole { IsImage image.now }
+    requires few { vcpu < 16 }
+    requires agree { Agrees image.now pages.old }
+    requires laid { IsLaidOut image.now memory.old }
+    ensures acts { ActsBy (λ answers. perform image.now vcpu inst.now length r.old (world (memory_of image.now memory.old) answers)) r.old (memory_of image.now memory.old) result r.new (memory_of image.now memory.new) }
+    ensures agree { Agrees image.now pages.new }
+    ensures laid { IsLaidOut image.now memory.new }
+{
+    match need_of(inst, r.rip.wrapping_add(length), r) {
+        Need::Quiet => {
+            finish(inst, length, r, 0);
+            Act::Done
+        }
+        Need::Reads { w, address } => {
+            read(image, pages, memory, vcpu, r, inst, length, w, address)
+        }
+        Need::Writes { w, address, value } => write(
+            image, pages, memory, vcpu, r, inst, length, w, address, value,
+        ),
+        Need::Stops(trap) => Act::Halts(trapped(trap, r)),
+    }
+}
+
+/// Does the instruction at RIP.
+#[inline]
+pub fn instruct(
+    image: &Image,
+    code: &Code,
+    pages: &mut Pages,
+    memory: &mut Memory,
+    vcpu: u8,
+    r: &mut Regs,
+) -> Act
+    requires whole { IsImage image.now }
+    requires decoded { IsDecoded image.now code.now }
+    requires few { vcpu < 16 }
+    requires agree { Agrees image.now pages.old }
+    requires laid { IsLaidOut image.now memory.old }
+    ensures acts { ActsBy (λ answers. move image.now vcpu r.old (world (memory_of image.now memory.old) answers)) r.old (memory_of image.now memory.old) result r.new (memory_of image.now memory.new) }
+    ensures agree { Agrees image.now pages.new }
+    ensures laid { IsLaidOut image.now memory.new }
+{
+    match fetch(image, code, pages, memory, vcpu, r) {
+        Fetched::Found { inst, length } => { perform(image, pages, memory, vcpu, r, &inst, length) }
+        Fetched::RefusedAt { first } => {
+            Act::Halts(refused(image, vcpu, r.pkru, Access::Fetch, first))
+        }
+        Fetched::Unspelled => Act::Halts(Stop::Invalid),
+    }
+}
