@@ -1,0 +1,4 @@
+//! The stack use of functions, as far as it fits a frame.
+#![tactic(auto)]
+
+pub mod need;
