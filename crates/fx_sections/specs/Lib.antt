@@ -1,0 +1,4 @@
+pub mod Pairs
+pub mod Regions
+pub mod Initials
+pub mod Placement
