@@ -1,0 +1,4 @@
+pub mod Differ
+pub mod Sections
+pub mod Globals
+pub mod Bounds

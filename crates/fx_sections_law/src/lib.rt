@@ -1,0 +1,30 @@
+//! What a placement means: which pages and addresses belong to whom.
+#![tactic(auto)]
+
+ghost use Rattle.fx_sections_law.specs.Laws.{PairsDiffer, SectionsAreApart, GlobalsAreInTheirSections, GlobalsAreApart, GlobalsStandBehindTheRuntime, RegionsAreApart};
+
+/// Every section is of one pair of readers and writers, and no two are of the same.
+pub fn pairs_differ()
+    ensures { PairsDiffer }
+{}
+
+/// One unmapped page follows each section.
+pub fn sections_are_apart()
+    ensures { SectionsAreApart }
+{}
+
+/// Each global lies in pages of exactly its pair.
+pub fn globals_are_in_their_sections()
+    ensures { GlobalsAreInTheirSections }
+{}
+
+/// No two objects of a section share 16 bytes that begin at a multiple of 16.
+pub fn globals_are_apart()
+    ensures apart { GlobalsAreApart }
+    ensures behind { GlobalsStandBehindTheRuntime }
+{}
+
+/// Sections and literals lie apart from every other region of the layout.
+pub fn regions_are_apart()
+    ensures { RegionsAreApart }
+{}
