@@ -1,0 +1,4 @@
+//! How a run of an image ends.
+#![tactic(auto)]
+
+pub mod outcome;

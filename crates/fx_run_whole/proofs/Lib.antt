@@ -1,0 +1,9 @@
+pub mod Reaching
+pub mod Serving
+pub mod Telling
+pub mod Turned
+pub mod Watching
+pub mod Watched
+pub mod Ending
+pub mod Moments
+pub mod States
