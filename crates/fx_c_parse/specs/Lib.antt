@@ -1,0 +1,12 @@
+pub mod Words
+pub mod Fronts
+pub mod Reading
+pub mod Making
+pub mod Types
+pub mod Expressions
+pub mod Statements
+pub mod Declarations
+pub mod Grammar
+pub mod Phrases
+pub mod Units
+pub mod Exact
