@@ -1,31 +1,24 @@
 -- How a run ends, from the moment before its last turn.
-use Rattle.std.proofs.Common.{◌≡◌, ◌≢◌, ℕ, zero, suc, ◌+◌, ◌-◌, ◌%◌, ◌≤◌, ◌<◌, ◌⊎◌, inl, inr, List, [], ◌∷◌, ◌++◌, length, take, drop, Option, Some, None, Ok, Err, Bool, true, false, cond, refl, ap, sym, ◌∙◌, subst, arith, append_assoc}
+use Rattle.std.proofs.Common.{◌≡◌, ◌≢◌, ℕ, zero, suc, ◌+◌, ◌%◌, ◌≤◌, ◌<◌, inl, inr, List, [], ◌∷◌, ◌++◌, length, take, drop, Option, Some, None, Err, true, refl, ap, sym, ◌∙◌, subst, arith}
 use Rattle.std.specs.Prelude.{◌==◌}
 use Rattle.std.proofs.lemmas.Bool.{cond-true}
-use Rattle.std.proofs.lemmas.Bool.Decides.{nat_tests, eqb_tells}
+use Rattle.std.proofs.lemmas.Bool.Decides.{nat_tests}
 use Rattle.std.proofs.lemmas.List.{append-nil}
-use Rattle.std.proofs.Math.Seq.{take-length}
 use Rattle.fx_base.specs.declared.device_op.DeviceOp.{DeviceOp}
-use Rattle.fx_base.specs.Faults.{Rose}
-use Rattle.fx_base.specs.Told.{Told}
-use Rattle.fx_outcomes.specs.Runs.{Next, Stops, Outcome}
-use Rattle.fx_outcomes.specs.Many.{Many}
+use Rattle.fx_outcomes.specs.Runs.{Stops, Outcome}
 use Rattle.fx_device.specs.Rules.{Held, Meaning, Request, Failed}
-use Rattle.fx_device.specs.Bus.{BusState, box_of, operations_of, written, Ends, Carries, Leads}
+use Rattle.fx_device.specs.Bus.{BusState, box_of, operations_of, Ends, Carries, Leads}
 use Rattle.fx_device.specs.declared.bus_error.BusError.TheVariants as errors
-use Rattle.fx_cpu.specs.declared.registers.Regs.{Regs}
 use Rattle.fx_image.specs.declared.forms.Image.{Image}
 use Rattle.fx_machine.specs.Boot.{vcpus}
-use Rattle.fx_machine.specs.Moves.{World}
-use Rattle.fx_machine.specs.Running.{boot}
 use Rattle.fx_machine.specs.declared.stop.Stop.{Stop}
-use Rattle.fx_machine_whole.specs.Turns.{Running, next_of, made_of, taken_by, request_of, asked, GoesOn, Makes, Asks, AsksInput, console_load}
-use Rattle.fx_run_whole.specs.Ran.{named, names, is_fed, AllOnes, console_others, plug_of, Part, IsPlugged, stop_of, NextAsks, RunsTo, counted}
+use Rattle.fx_machine_whole.specs.Turns.{Running, next_of, made_of, Asks, AsksInput, console_load}
+use Rattle.fx_run_whole.specs.Ran.{named, AllOnes, console_others, plug_of, Part, IsPlugged, stop_of, NextAsks, RunsTo}
 use Rattle.fx_run_whole.specs.Reached.{Reached, Served, ServedOrDue, Devices, DevicesDue}
-use Rattle.fx_run_whole.specs.Stepping.{Notes, Reaches, vcpu_of}
+use Rattle.fx_run_whole.specs.Stepping.{Reaches}
 use Rattle.fx_run_outcomes.specs.declared.outcome.Outcome as outcomes
-use Rattle.fx_run_outcomes.specs.declared.outcome.Outcome.TheVariants.{Stopped, Spent, Device, ReadFault, WriteFault, OutOfMemory}
-use Rattle.fx_run_whole.proofs.Reaching.{run_ends, turns_end, fed_ends, next_is, run_stops, turns_stop, fed_stops, reached_next}
+use Rattle.fx_run_outcomes.specs.declared.outcome.Outcome.TheVariants.{Stopped, Spent}
+use Rattle.fx_run_whole.proofs.Reaching.{run_ends, turns_end, fed_ends, next_is, run_stops, turns_stop, fed_stops}
 use Rattle.fx_run_whole.proofs.Serving.{requested, devices_carried, devices_same, devices_noted, led_whole}
 
 -- ---- the parts of the devices

@@ -1,23 +1,22 @@
 -- A run from its boot over each turn to its end.
-use Rattle.std.proofs.Common.{◌≡◌, ◌≢◌, ℕ, zero, suc, ◌+◌, ◌-◌, ◌%◌, ◌≤◌, ◌<◌, ◌⊎◌, inl, inr, List, [], ◌∷◌, ◌++◌, length, take, drop, Option, Some, None, refl, ap, sym, ◌∙◌, subst, arith}
+use Rattle.std.proofs.Common.{◌≡◌, ℕ, zero, suc, ◌+◌, ◌≤◌, ◌<◌, ◌⊎◌, inl, inr, List, [], ◌∷◌, ◌++◌, length, Option, Some, None, refl, ap, sym, ◌∙◌, subst, arith}
 use Rattle.std.proofs.lemmas.List.{append-nil}
 use Rattle.fx_base.specs.declared.device_op.DeviceOp.{DeviceOp}
 use Rattle.fx_base.specs.Faults.{Rose}
 use Rattle.fx_base.specs.Told.{Told}
 use Rattle.fx_device.specs.Rules.{Meaning}
-use Rattle.fx_device.specs.Bus.{BusState, box_of, Leads, none}
+use Rattle.fx_device.specs.Bus.{BusState, box_of, none}
 use Rattle.fx_image.specs.declared.forms.Image.{Image}
-use Rattle.fx_machine_whole.specs.Turns.{Running, booted, state_of, request_of, GoesOn, console_load, made_of, next_of}
-use Rattle.fx_machine.specs.Running.{boot}
+use Rattle.fx_machine_whole.specs.Turns.{Running, booted, state_of, request_of, made_of}
 use Rattle.fx_run_outcomes.specs.declared.outcome.Outcome as outcomes
 use Rattle.fx_run_outcomes.specs.declared.outcome.Outcome.TheVariants.{Stopped, Spent, Device, ReadFault, WriteFault, OutOfMemory}
-use Rattle.fx_run_whole.specs.Ran.{named, names, outputs, inputs, Reads, ReadsMore, Gained, GainedButLast, plug_of, Part, RunsTo, HasCause, NextAsks, Output, Input, counted}
-use Rattle.fx_run_whole.specs.Reached.{Reached, Devices, DevicesDue, Watching, Watched, Rebox}
+use Rattle.fx_run_whole.specs.Ran.{named, outputs, inputs, Reads, Gained, GainedButLast, plug_of, Part, RunsTo, HasCause, Output, Input, counted}
+use Rattle.fx_run_whole.specs.Reached.{Reached, Devices, Watching, Watched, Rebox}
 use Rattle.fx_run_whole.specs.Stepping.{Same, LostOne, WentOn, EndsBy}
 use Rattle.fx_run_whole.specs.declared.watch.Watch.{Watch}
 use Rattle.fx_run_whole.proofs.Reaching.{reached_first, reached_next, next_is}
 use Rattle.fx_run_whole.proofs.Serving.{devices_same}
-use Rattle.fx_run_whole.proofs.Telling.{told_same, told_map, told_join, outputs-append, inputs-append, reads-append, gained-append}
+use Rattle.fx_run_whole.proofs.Telling.{told_same, told_join, outputs-append, inputs-append, reads-append, gained-append}
 use Rattle.fx_run_whole.proofs.Ending.{devices_reached, made_more, ran_here, ran_stopped, asks_next, fails, fault_kept}
 
 abbrev Tale : Type 0

@@ -1,5 +1,5 @@
 -- One turn of a run.
-use Rattle.std.proofs.Common.{◌≡◌, ℕ, zero, suc, ◌+◌, ◌%◌, ◌≤◌, List, [], ◌∷◌, ◌++◌, length, Some, None, Bool, true, false, cond, refl, ap, sym, ◌∙◌, subst, arith, append_assoc, add-one}
+use Rattle.std.proofs.Common.{◌≡◌, ℕ, suc, ◌+◌, ◌%◌, ◌≤◌, List, [], ◌∷◌, ◌++◌, length, Some, None, Bool, true, false, cond, refl, ap, sym, ◌∙◌, subst, arith, append_assoc, add-one}
 use Rattle.std.specs.Prelude.{not, ◌&&◌}
 use Rattle.std.proofs.lemmas.List.{append-nil}
 use Rattle.fx_base.specs.declared.device_op.DeviceOp.{DeviceOp}
@@ -12,7 +12,7 @@ use Rattle.fx_machine.specs.Effects.{all_ones}
 use Rattle.fx_machine.specs.Moves.{World, move}
 use Rattle.fx_machine.specs.Running.{boot, run_image, image_turns, image_after}
 use Rattle.fx_machine.specs.declared.stop.Stop.{Stop}
-use Rattle.fx_machine_whole.specs.Turns.{Running, state_of, next_of, made_of, taken_by, GoesOn, booted}
+use Rattle.fx_machine_whole.specs.Turns.{Running, state_of, next_of, made_of, taken_by, GoesOn}
 use Rattle.fx_run_whole.specs.Ran.{named, names, loads, is_starved, is_fed}
 use Rattle.fx_run_whole.specs.Reached.{Reached}
 

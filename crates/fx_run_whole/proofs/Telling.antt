@@ -1,15 +1,14 @@
 -- What objects tell over several calls, and what a turn's operations put out and take in.
-use Rattle.std.proofs.Common.{◌≡◌, ℕ, ◌%◌, ◌≤◌, ◌⊎◌, inl, inr, List, [], ◌∷◌, ◌++◌, length, drop, Option, Some, None, Bool, true, false, cond, refl, ap, sym, ◌∙◌, subst, arith, append_assoc}
+use Rattle.std.proofs.Common.{◌≡◌, ℕ, ◌%◌, ◌≤◌, List, [], ◌∷◌, ◌++◌, length, Option, Some, None, Bool, true, false, cond, refl, ap, sym, ◌∙◌, subst, arith, append_assoc}
 use Rattle.std.specs.Prelude.{not, ◌&&◌, ◌==◌}
 use Rattle.std.proofs.lemmas.List.{append-nil}
 use Rattle.fx_base.specs.declared.device_op.DeviceOp.{DeviceOp}
 use Rattle.fx_base.specs.Told.{Told}
-use Rattle.fx_machine.specs.Effects.{all_ones}
 use Rattle.fx_machine.specs.Turns.{answer_to}
 use Rattle.fx_machine.specs.declared.stop.Turn.{Turn}
 use Rattle.fx_machine.specs.declared.stop.Turn.TheVariants as turns
-use Rattle.fx_run_whole.specs.Ran.{output_of, outputs, input_of, inputs, Reads, ReadsMore, Gained, GainedButLast}
-use Rattle.fx_run_whole.specs.Stepping.{Same, LostOne}
+use Rattle.fx_run_whole.specs.Ran.{output_of, outputs, input_of, inputs, Reads, Gained}
+use Rattle.fx_run_whole.specs.Stepping.{LostOne}
 
 pub told_same : {A : Type 0} (R : A → A → Type 0) → ((x : A) → R x x) → (o : Option A) → Told R o o
 told_same R same None = tt

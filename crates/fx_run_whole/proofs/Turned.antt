@@ -1,19 +1,15 @@
 -- What a turn of the machine's answers come to, with the input and the output.
-use Rattle.std.proofs.Common.{◌≡◌, ℕ, ◌%◌, ◌<◌, ◌≤◌, ◌⊎◌, inl, inr, List, [], ◌∷◌, ◌++◌, length, take, drop, Option, Some, None, refl, ap, sym, ◌∙◌, subst, arith}
-use Rattle.std.specs.Prelude.{IfNone, IfSome}
+use Rattle.std.proofs.Common.{◌≡◌, ℕ, ◌<◌, inl, inr, List, [], ◌∷◌, ◌++◌, take, Option, None, refl, ap, sym, ◌∙◌, subst, arith}
 use Rattle.std.proofs.lemmas.List.{append-nil}
 use Rattle.std.proofs.lemmas.Option.{MatchOption-at_none}
 use Rattle.fx_base.specs.Faults.{Rose}
 use Rattle.fx_base.specs.Sink.{Gains}
 use Rattle.fx_base.specs.Told.{Told}
-use Rattle.fx_base.specs.declared.device_op.DeviceOp.{DeviceOp}
-use Rattle.fx_device.specs.Bus.{BusState}
 use Rattle.fx_machine.specs.declared.stop.Stop.{Stop}
-use Rattle.fx_machine.specs.declared.stop.Turn.{Turn}
 use Rattle.fx_machine.specs.declared.stop.Turn.TheVariants as turns
 use Rattle.fx_machine_whole.specs.Turns.{Running, Turned, Waits, Gave, console_load}
-use Rattle.fx_run_outcomes.specs.declared.outcome.Outcome.TheVariants.{Stopped, Spent, Device, ReadFault, WriteFault, OutOfMemory}
-use Rattle.fx_run_whole.specs.Ran.{outputs, inputs, Gained, Reads, Answers}
+use Rattle.fx_run_outcomes.specs.declared.outcome.Outcome.TheVariants.{Stopped, Device, ReadFault, WriteFault, OutOfMemory}
+use Rattle.fx_run_whole.specs.Ran.{outputs, inputs, Gained, Reads}
 use Rattle.fx_run_whole.specs.Stepping.{Same, LostOne, WentOn, EndsBy}
 use Rattle.fx_run_whole.proofs.Telling.{told_same, told_map, went_puts, output_puts, lost_one, nothing_put, nothing_read}
 

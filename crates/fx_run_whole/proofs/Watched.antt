@@ -1,14 +1,14 @@
 -- Watching a device from the boot and over each turn.
-use Rattle.std.proofs.Common.{◌≡◌, ◌≢◌, ℕ, zero, suc, ◌+◌, ◌-◌, ◌≤◌, ◌<◌, ◌⊎◌, inl, inr, List, [], ◌∷◌, ◌++◌, length, Option, Some, None, Bool, true, false, cond, nat_eq, refl, ap, sym, ◌∙◌, subst, arith}
+use Rattle.std.proofs.Common.{◌≡◌, ◌≢◌, ℕ, zero, suc, ◌-◌, ◌≤◌, ◌<◌, ◌⊎◌, inl, inr, List, [], ◌∷◌, ◌++◌, length, Option, Some, None, true, false, nat_eq, refl, ap, sym, ◌∙◌, subst, arith}
 use Rattle.std.specs.Prelude.{slice_get, slice_index_or}
 use Rattle.std.proofs.lemmas.List.{append-nil}
-use Rattle.std.proofs.lemmas.Bool.Decides.{nat_tests, eqb_tells}
+use Rattle.std.proofs.lemmas.Bool.Decides.{eqb_tells}
 use Rattle.fx_base.specs.declared.device_op.DeviceOp.{DeviceOp}
 use Rattle.fx_device.specs.Rules.{Meaning}
-use Rattle.fx_device.specs.Bus.{BusState, box_of, with_box, operations_of, Leads, none}
+use Rattle.fx_device.specs.Bus.{BusState, box_of, with_box, operations_of, none}
 use Rattle.fx_device.proofs.Boxes.{box_of-with_box, box_of-with_box_other, box_of-with_none}
-use Rattle.fx_run_whole.specs.Ran.{plug_of, AllOnes, console_others, IsPlugged}
-use Rattle.fx_run_whole.specs.Reached.{Served, ServedOrDue, Devices, DevicesDue, Watching, Watched}
+use Rattle.fx_run_whole.specs.Ran.{plug_of, AllOnes, console_others}
+use Rattle.fx_run_whole.specs.Reached.{Served, Devices, Watching, Watched}
 use Rattle.fx_run_whole.specs.declared.watch.Watch.{Watch}
 use Rattle.fx_run_whole.proofs.Serving.{other, plug_at, plug_other}
 use Rattle.fx_run_whole.proofs.Watching.{made_some, made_none, settled, unwatched, quiet, counted, ended}

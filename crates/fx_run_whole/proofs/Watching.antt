@@ -1,14 +1,14 @@
 -- Watching a device over a turn.
-use Rattle.std.proofs.Common.{◌≡◌, ◌≢◌, ℕ, zero, suc, ◌+◌, ◌-◌, ◌≤◌, ◌<◌, ◌⊎◌, inl, inr, List, [], ◌∷◌, ◌++◌, length, Option, Some, None, Bool, true, false, cond, nat_eq, refl, ap, sym, ◌∙◌, subst, arith, append_assoc, length-append}
-use Rattle.std.specs.Prelude.{slice_get, ◌==◌}
+use Rattle.std.proofs.Common.{◌≡◌, ◌≢◌, ℕ, ◌+◌, ◌≤◌, ◌<◌, ◌⊎◌, inl, inr, List, [], ◌∷◌, ◌++◌, length, Option, Some, None, true, false, nat_eq, refl, ap, sym, ◌∙◌, subst, arith, length-append}
+use Rattle.std.specs.Prelude.{slice_get}
 use Rattle.std.proofs.lemmas.List.{append-nil}
-use Rattle.std.proofs.lemmas.Bool.Decides.{nat_tests, eqb_tells}
+use Rattle.std.proofs.lemmas.Bool.Decides.{eqb_tells}
 use Rattle.fx_base.specs.declared.device_op.DeviceOp.{DeviceOp}
 use Rattle.fx_device.specs.Rules.{Meaning}
 use Rattle.fx_device.specs.Bus.{BusState, box_of, with_box, operations_of}
 use Rattle.fx_device.proofs.Boxes.{box_of-with_box, box_of-with_box_other, box_of-with_none}
-use Rattle.fx_run_whole.specs.Ran.{plug_of, AllOnes, console_others}
-use Rattle.fx_run_whole.specs.Reached.{Served, ServedOrDue, Devices, DevicesDue, Watching}
+use Rattle.fx_run_whole.specs.Ran.{plug_of}
+use Rattle.fx_run_whole.specs.Reached.{Served, Devices, DevicesDue, Watching}
 use Rattle.fx_run_whole.specs.declared.watch.Watch.{Watch}
 use Rattle.fx_run_whole.proofs.Serving.{own, other, not_due, dropped, plug_at, plug_other}
 

@@ -1,13 +1,12 @@
 -- How a run of an image by a schedule ends, what it takes in and what it puts out.
-use Rattle.std.specs.Prelude.{ℕ, zero, suc, ◌≡◌, ◌≢◌, ◌⊎◌, ◌+◌, ◌-◌, ◌≤◌, ◌<◌, ◌%◌, ◌==◌, ◌&&◌, Bool, true, false, not, nat_lt, if◌then◌else◌, List, [], ◌∷◌, ◌++◌, length, filter, take, drop, slice_index, Option, Some, None, Err}
+use Rattle.std.specs.Prelude.{ℕ, zero, suc, ◌≡◌, ◌≢◌, ◌⊎◌, ◌+◌, ◌-◌, ◌≤◌, ◌<◌, ◌%◌, ◌==◌, ◌&&◌, Bool, true, false, not, nat_lt, if◌then◌else◌, List, [], ◌∷◌, ◌++◌, length, filter, take, drop, slice_index, Option, Some, None}
 use Rattle.std.specs.List.{flat_map, AllByRecursion}
 use Rattle.fx_base.specs.declared.device_op.DeviceOp.{DeviceOp}
 use Rattle.fx_base.specs.Faults.{Rose}
-use Rattle.fx_base.specs.Told.{Told}
-use Rattle.fx_outcomes.specs.Runs.{Next, Goes, Stops, run, before, turns, later}
+use Rattle.fx_outcomes.specs.Runs.{later}
 use Rattle.fx_outcomes.specs.Many.{Many, turn}
-use Rattle.fx_device.specs.Rules.{Meaning, Held, Failed, left_in}
-use Rattle.fx_device.specs.Bus.{BusState, box_of, with_box, operations_of, Leads}
+use Rattle.fx_device.specs.Rules.{Meaning, Held, Failed}
+use Rattle.fx_device.specs.Bus.{box_of, operations_of, Leads}
 use Rattle.fx_cpu.specs.declared.registers.Regs.{Regs}
 use Rattle.fx_image.specs.declared.forms.Image.{Image}
 use Rattle.fx_machine.specs.Boot.{vcpus}
@@ -15,7 +14,7 @@ use Rattle.fx_machine.specs.Effects.{all_ones}
 use Rattle.fx_machine.specs.Moves.{World, move}
 use Rattle.fx_machine.specs.Running.{boot, run_image, image_turns, image_after}
 use Rattle.fx_machine.specs.declared.stop.Stop.{Stop}
-use Rattle.fx_machine_whole.specs.Turns.{Running, state_of, next_of, made_of, taken_by, request_of, asked, console_load}
+use Rattle.fx_machine_whole.specs.Turns.{made_of, taken_by, request_of, asked, console_load}
 use Rattle.fx_run_outcomes.specs.declared.outcome.Outcome.{Outcome}
 use Rattle.fx_run_outcomes.specs.declared.outcome.Outcome.TheVariants.{Stopped, Spent, Device, ReadFault, WriteFault, OutOfMemory}
 

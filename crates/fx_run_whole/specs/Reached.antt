@@ -1,17 +1,14 @@
 -- A moment of a run, and what a turn does to it.
-use Rattle.std.specs.Prelude.{ℕ, ◌≡◌, ◌≢◌, ◌⊎◌, ◌+◌, ◌≤◌, ◌<◌, ◌%◌, List, [], ◌∷◌, ◌++◌, length, take, drop, Option, Some, None}
+use Rattle.std.specs.Prelude.{ℕ, ◌≡◌, ◌≢◌, ◌⊎◌, ◌+◌, ◌≤◌, ◌<◌, List, ◌++◌, length, take, drop, Option, Some, None}
 use Rattle.fx_base.specs.declared.device_op.DeviceOp.{DeviceOp}
-use Rattle.fx_base.specs.Faults.{Rose}
-use Rattle.fx_base.specs.Told.{Told}
-use Rattle.fx_outcomes.specs.Runs.{Next, Goes, Stops, run, before, turns, after}
-use Rattle.fx_outcomes.specs.Many.{Many, turn}
+use Rattle.fx_outcomes.specs.Runs.{run, before, turns, after}
+use Rattle.fx_outcomes.specs.Many.{turn}
 use Rattle.fx_device.specs.Rules.{Meaning}
 use Rattle.fx_device.specs.Bus.{BusState, box_of, with_box, operations_of, Leads}
 use Rattle.fx_image.specs.declared.forms.Image.{Image}
 use Rattle.fx_machine.specs.Boot.{vcpus}
-use Rattle.fx_machine.specs.Moves.{World, move}
+use Rattle.fx_machine.specs.Moves.{move}
 use Rattle.fx_machine.specs.Running.{boot}
-use Rattle.fx_machine.specs.declared.stop.Stop.{Stop}
 use Rattle.fx_machine_whole.specs.Turns.{Running, state_of, taken_by}
 use Rattle.fx_run_whole.specs.Ran.{names, is_fed, plug_of, AllOnes, console_others, IsPlugged}
 use Rattle.fx_run_whole.specs.declared.watch.Watch.{Watch}

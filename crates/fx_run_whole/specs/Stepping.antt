@@ -1,5 +1,5 @@
 -- What one turn of a run comes to, with the input and the output.
-use Rattle.std.specs.Prelude.{ℕ, ◌≡◌, ◌%◌, ◌⊎◌, List, [], ◌∷◌, ◌++◌, drop, Option, Some, None, Err}
+use Rattle.std.specs.Prelude.{ℕ, ◌≡◌, ◌%◌, ◌⊎◌, List, [], ◌∷◌, ◌++◌, drop, Option, Err}
 use Rattle.fx_base.specs.declared.device_op.DeviceOp.{DeviceOp}
 use Rattle.fx_base.specs.Faults.{Rose}
 use Rattle.fx_base.specs.Told.{Told}

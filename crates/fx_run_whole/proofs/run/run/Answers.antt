@@ -1,4 +1,4 @@
-use Rattle.std.proofs.Common.{ℕ, List, [], Option, refl}
+use Rattle.std.proofs.Common.{List, [], Option, refl}
 use Rattle.fx_base.specs.Told.{Told}
 use Rattle.fx_base.specs.declared.device_op.DeviceOp.{DeviceOp}
 use Rattle.fx_device.specs.Bus.{plugged}
