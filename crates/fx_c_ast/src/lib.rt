@@ -7,5 +7,3 @@ pub mod layout;
 pub mod operator;
 pub mod parsed;
 pub mod sequence;
-#[cfg(test)]
-mod tests;

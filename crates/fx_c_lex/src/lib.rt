@@ -16,6 +16,3 @@ mod words;
 
 pub use lexer::tokens;
 pub use token::{LexError, TextBytes, Token, TokenKind, TokenList};
-
-#[cfg(test)]
-mod tests;

@@ -12,11 +12,7 @@ pub mod front;
 pub mod head;
 pub mod laws;
 pub mod parser;
-#[cfg(test)]
-mod printer;
 pub mod statement;
-#[cfg(test)]
-mod tests;
 pub mod types;
 
 pub use fault::ParseError;

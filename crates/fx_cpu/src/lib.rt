@@ -14,6 +14,4 @@ pub mod need;
 pub mod port;
 pub mod registers;
 pub mod step;
-#[cfg(test)]
-mod tests;
 pub mod trap;

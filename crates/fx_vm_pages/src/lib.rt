@@ -8,5 +8,3 @@
 pub mod access;
 pub mod entry;
 pub mod space;
-#[cfg(test)]
-mod tests;

@@ -10,6 +10,4 @@ pub mod products;
 pub mod quotients;
 pub mod shifts;
 pub mod sums;
-#[cfg(test)]
-mod tests;
 pub mod words;

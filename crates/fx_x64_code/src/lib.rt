@@ -13,5 +13,3 @@ pub mod encode;
 mod guess;
 pub mod laws;
 mod spell;
-#[cfg(test)]
-mod tests;

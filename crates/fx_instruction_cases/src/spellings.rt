@@ -1,7 +1,7 @@
 //! Spellings from outside: a few of each kind. The long table is the stored run of `fx_encodings`.
 
-use crate::decode::{decode, is_row};
-use crate::encode::encode;
+use fx_x64_code::decode::{decode, is_row};
+use fx_x64_code::encode::encode;
 use fx_x64_forms::inst::{AluOp, Inst};
 use fx_x64_forms::operand::{Mem, Reg, Width};
 use std::test::Fail;

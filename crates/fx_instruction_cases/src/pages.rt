@@ -2,10 +2,10 @@
 
 ghost use Rattle.fx_vm_pages.specs.Access.{HasKey};
 
-use crate::access::{Access, Refusal, permits};
-use crate::entry::{Entry, PageFlags, Pkru};
-use crate::space::{MapError, Space};
 use bitflags::Flags;
+use fx_vm_pages::access::{Access, Refusal, permits};
+use fx_vm_pages::entry::{Entry, PageFlags, Pkru};
+use fx_vm_pages::space::{MapError, Space};
 
 /// An entry with a key whose flags have these bits: 1 to write, 2 to execute, 4 for a device.
 fn page(bits: u8, key: u8) -> Option<Entry>

@@ -2,10 +2,10 @@
 
 ghost use Rattle.std.specs.Prelude.{◌≡◌, []};
 
-use crate::checked::{TProgram, Ty};
-use crate::layout::{align_of, size_of};
-use crate::operator::IntType;
-use crate::sequence::Sequence;
+use fx_c_ast::checked::{TProgram, Ty};
+use fx_c_ast::layout::{align_of, size_of};
+use fx_c_ast::operator::IntType;
+use fx_c_ast::sequence::Sequence;
 use std::alloc::{AllocError, Global};
 
 fn no_structs(alloc: Global) -> TProgram

@@ -1,9 +1,9 @@
 //! Instructions over memory without pages, with values worked out by hand from the manual.
 
-use crate::flat::Flat;
-use crate::registers::Regs;
-use crate::step::step;
-use crate::trap::{Stepped, Trap};
+use fx_cpu::flat::Flat;
+use fx_cpu::registers::Regs;
+use fx_cpu::step::step;
+use fx_cpu::trap::{Stepped, Trap};
 use fx_vm_pages::access::{Access, Refusal};
 use fx_vm_pages::entry::Pkru;
 use fx_word_ops::flags::Flags;

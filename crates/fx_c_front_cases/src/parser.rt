@@ -1,9 +1,8 @@
 //! Worked texts, tables by hand, and the printer's round trip.
 
-use crate::fault::ParseError;
-use crate::parser::parse;
 use crate::printer::Printer;
 use fx_c_ast::parsed::{Decl, Stmt, Unit};
+use fx_c_parse::{ParseError, parse};
 use std::alloc::{AllocError, Global};
 use std::test::Fail;
 

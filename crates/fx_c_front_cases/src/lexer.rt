@@ -1,6 +1,6 @@
 //! Texts with their tokens, written by hand from the C profile's lists.
 
-use crate::{LexError, TokenKind, keyword, sign, tokens};
+use fx_c_lex::{LexError, TokenKind, keyword, sign, tokens};
 use std::alloc::Global;
 use std::test::Fail;
 

@@ -1,11 +1,11 @@
 //! Results and flags at the edges of each width, worked out by hand from the manual's rules.
 
-use crate::flags::{Flags, LogicOp};
-use crate::products::mul;
-use crate::quotients::divide;
-use crate::shifts::shift;
-use crate::sums::{add, logic, sub};
-use crate::words::{sign_extend, to_signed, zero_extend};
+use fx_word_ops::flags::{Flags, LogicOp};
+use fx_word_ops::products::mul;
+use fx_word_ops::quotients::divide;
+use fx_word_ops::shifts::shift;
+use fx_word_ops::sums::{add, logic, sub};
+use fx_word_ops::words::{sign_extend, to_signed, zero_extend};
 use fx_x64_forms::inst::ShiftOp;
 use fx_x64_forms::operand::Width::{self, W8, W16, W32, W64};
 
