@@ -7,5 +7,3 @@
 pub mod build;
 mod code;
 pub mod laws;
-#[cfg(test)]
-mod tests;

@@ -1,6 +1,6 @@
 //! The code of one constant, written out by hand.
 
-use crate::build::build;
+use fx_early_image::build::build;
 use std::test::Fail;
 
 const RANGE: usize = 4096;
