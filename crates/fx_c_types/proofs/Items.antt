@@ -1,11 +1,10 @@
 -- Lists of locals, globals and functions, item by item.
-use Rattle.std.proofs.Common.{◌≡◌, ◌≢◌, ℕ, false, zero, suc, ◌+◌, ◌<◌, ◌≤◌, refl, sym, ap, ◌∙◌, arith, List, [], ◌∷◌, ◌++◌, length, get_or, slice_get, Option, Some, None, Result, Ok, Err}
+use Rattle.std.proofs.Common.{◌≡◌, ◌≢◌, ℕ, false, zero, suc, ◌<◌, ◌≤◌, refl, sym, ap, arith, List, [], ◌∷◌, ◌++◌, length, get_or, slice_get, Some, None}
 use Rattle.fx_c_ast.specs.declared.checked.TLocal.{TLocal}
 use Rattle.fx_c_ast.specs.declared.checked.TGlobal.{TGlobal}
-use Rattle.fx_c_ast.specs.CheckedTrees.{TyTree, VoidTy, ty_tree}
-use Rattle.fx_c_typing.specs.Locals.{LocalTree, local_trees}
+use Rattle.fx_c_ast.specs.CheckedTrees.{VoidTy, ty_tree}
+use Rattle.fx_c_typing.specs.Locals.{local_trees}
 use Rattle.fx_c_heads.specs.declared.heads.Head.{Head}
-use Rattle.fx_c_heads.specs.Heads.{FunctionHead, GlobalHead}
 use Rattle.fx_c_heads.specs.HeadsView.{global_heads, function_head, function_heads}
 use Rattle.fx_c_types.specs.Bodies.{type_or_void, global_or_void, is_long, are_one_long}
 

@@ -2,15 +2,15 @@
 --
 -- Each judgement takes what is there before a node to the checked node and what is there after it, or to the first
 -- rule that is violated: nodes in postorder, from left to right, and at a node the rules in their order.
-use Rattle.std.specs.Prelude.{ℕ, Bool, true, false, ◌+◌, ◌-◌, ◌&&◌, ◌||◌, not, nat_eq, nat_lt, nat_le, min, List, [], ◌∷◌, ◌++◌, length, take, slice_get, slice_index_or, slice_set, Option, Some, None, is_some, Ok}
-use Rattle.fx_c_ast.specs.declared.operator.IntType.TheVariants.{Char, Int, Long, Ulong}
+use Rattle.std.specs.Prelude.{ℕ, Bool, true, false, ◌+◌, ◌-◌, ◌&&◌, ◌||◌, not, nat_eq, nat_lt, min, List, [], ◌∷◌, ◌++◌, length, take, slice_get, slice_index_or, slice_set, Option, Some, None, is_some, Ok}
+use Rattle.fx_c_ast.specs.declared.operator.IntType.TheVariants.{Char, Long, Ulong}
 use Rattle.fx_c_ast.specs.ParsedTrees.{TypeTree, ExprTree, NumberTree, TextTree, VarTree, UnTree, BinTree, CastTree, SizeTree, IndexTree, MemberTree, ArrowTree, CallTree, GateTree, GetcTree, PutcTree, DevLoadTree, DevStoreTree, SpawnTree, SwitchTree, MeTree, ExprTrees, NoExprs, MoreExprs, StmtTree, EmptyTree, BlockTree, LocalTree, EvalTree, AssignTree, IfTree, WhileTree, ForTree, BreakTree, ContinueTree, ReturnTree, StmtTrees, NoStmts, MoreStmts, MaybeStmt, Absent, Present}
-use Rattle.fx_c_ast.specs.CheckedTrees.{TyTree, VoidTy, IntTy, StructTy, PtrTy, ArrayTy, TExprTree, ENumber, ELiteral, EGlobal, ELocal, ESize, EGetc, EDevLoad, EMe, ECall, EGate, ESpawn, TExprTrees, NoTExprs, MoreTExprs, TStmtTree, SEmpty, SBlock, SLocal, SEval, SAssign, SIf, SWhile, SFor, SBreak, SContinue, SReturn, TStmtTrees, NoTStmts, MoreTStmts, MaybeTStmt, NoTStmt, OneTStmt}
+use Rattle.fx_c_ast.specs.CheckedTrees.{TyTree, VoidTy, IntTy, ArrayTy, TExprTree, ENumber, ELiteral, EGlobal, ELocal, ESize, EGetc, EDevLoad, EMe, ECall, EGate, ESpawn, TExprTrees, NoTExprs, MoreTExprs, TStmtTree, SEmpty, SBlock, SLocal, SEval, SAssign, SIf, SWhile, SFor, SBreak, SContinue, SReturn, TStmtTrees, NoTStmts, MoreTStmts, MaybeTStmt, NoTStmt, OneTStmt}
 use Rattle.fx_c_names.specs.Names.{found}
 use Rattle.fx_c_typing.specs.declared.fault.TypeKind.TheVariants.{Twice, UnknownType, TooLarge, UnknownName, NotInteger, Arguments, ReturnType, CrossCall, NotEntry, BreakOutside}
 use Rattle.fx_c_typing.specs.Checks.{Checked, ◌>>=◌, refuse, demand}
 use Rattle.fx_c_typing.specs.Types.{category, is_void, is_complete, same_type}
-use Rattle.fx_c_typing.specs.Values.{type_of, value_of, is_scalar, condition, as_long, assigned, agrees, converted}
+use Rattle.fx_c_typing.specs.Values.{type_of, value_of, is_scalar, condition, assigned, agrees, converted}
 use Rattle.fx_c_typing.specs.Operators.{unary, binary, cast, element}
 use Rattle.fx_c_typing.specs.Structs.{place_32, member, arrow}
 use Rattle.fx_c_typing.specs.Locals as plain

@@ -1,5 +1,7 @@
-//! What is in reach in the body of a function, and the expressions that name something.
+//! The type checker: names, expressions and statements of function bodies.
 #![tactic(auto)]
 
+pub mod expressions;
 pub mod nodes;
 pub mod scope;
+pub mod statements;

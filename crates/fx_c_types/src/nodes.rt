@@ -211,7 +211,7 @@ pub fn call(
         return Err(Fault::Rule(TypeKind::UnknownName));
     };
     let args = arguments(alloc, f.head.params.as_slice(), args)?;
-    if f.head.library != library {
+    if library != f.head.library {
         return Err(Fault::Rule(TypeKind::CrossCall));
     }
     let ty = copied(alloc, &f.head.result)?;
