@@ -1,0 +1,30 @@
+-- What later stages need of a program that the check accepts.
+use Rattle.std.specs.Prelude.{◌≡◌, ◌+◌, ◌<◌, ◌≤◌, ◌^◌, List, length, Ok}
+use Rattle.fx_config.specs.declared.configuration.Config.{Config}
+use Rattle.fx_c_ast.specs.declared.checked.TProgram.{TProgram}
+use Rattle.fx_shadow.specs.Frames.{HasFrames}
+use Rattle.fx_grants.specs.declared.grants.Grants.{Grants}
+use Rattle.fx_sections.specs.Placement.{IsPlaceable}
+use Rattle.fx_c_check.specs.declared.program.SourceFile.{SourceFile}
+use Rattle.fx_c_check.specs.Programs.{well_typed}
+use Rattle.fx_c_check.specs.ProgramView.{declarations, program_tree}
+
+-- the program is the one that the files mean, and they keep all rules
+abbrev pub IsChecked : List SourceFile → TProgram → Type 0
+IsChecked files p = well_typed (declarations files) ≡ Ok (program_tree p)
+
+-- structs, parameters and locals have sizes, and a call of each function takes at most 65,536 bytes of stack
+abbrev pub CheckedProgramsHaveFrames : Type 0
+CheckedProgramsHaveFrames = (files : List SourceFile) (p : TProgram) → IsChecked files p → HasFrames p
+
+-- globals have sizes too, and no text is longer than a type may be: with a pair of readers and writers for each
+-- global, and fewer than 2^31 globals and strings, the program can be placed or is refused for its size
+abbrev pub CheckedProgramsArePlaceable : Type 0
+CheckedProgramsArePlaceable = (files : List SourceFile) (p : TProgram) (g : Grants) (k : Config) → IsChecked files p
+    → length g.globals ≡ length p.globals → length k.compartments ≤ 16
+    → length p.globals + length p.literals < 2 ^ 31 → IsPlaceable p g k
+
+-- there are no more globals, and no more functions, than declarations
+abbrev pub CheckedProgramsAreFew : Type 0
+CheckedProgramsAreFew = (files : List SourceFile) (p : TProgram) → IsChecked files p
+    → (length p.globals ≤ length (declarations files)) × (length p.functions ≤ length (declarations files))

@@ -1,0 +1,19 @@
+//! What a program that the check accepts has.
+#![tactic(auto)]
+
+ghost use Rattle.fx_c_check_law.specs.Laws.{CheckedProgramsHaveFrames, CheckedProgramsArePlaceable, CheckedProgramsAreFew};
+
+/// Structs, parameters and locals have sizes, and frames at most 65,536 bytes.
+pub fn checked_programs_have_frames()
+    ensures { CheckedProgramsHaveFrames }
+{}
+
+/// With a pair for each global, a checked program can be placed or is refused for its size.
+pub fn checked_programs_are_placeable()
+    ensures { CheckedProgramsArePlaceable }
+{}
+
+/// Globals and functions are no more than declarations.
+pub fn checked_programs_are_few()
+    ensures { CheckedProgramsAreFew }
+{}
