@@ -1,5 +1,5 @@
 -- The same facts, of a checked program itself.
-use Rattle.std.proofs.Common.{◌≡◌, ℕ, suc, ◌+◌, ◌*◌, ◌^◌, ◌<◌, ◌≤◌, Bool, true, false, ◌==◌, if◌then◌else◌, List, [], ◌∷◌, length, length-take, take, map, refl, ap, ◌∙◌, arith, subst}
+use Rattle.std.proofs.Common.{◌≡◌, ℕ, zero, suc, get_or, ◌&&◌, ◌+◌, ◌*◌, ◌^◌, ◌<◌, ◌≤◌, Bool, true, false, ◌==◌, if◌then◌else◌, List, [], ◌∷◌, length, length-take, take, map, refl, ap, ◌∙◌, arith, subst}
 use Rattle.std.specs.Prelude.{All, sum}
 use Rattle.std.specs.Int.{w64, to_le_bytes}
 use Rattle.std.proofs.Math.Nat.{min-le_left}
@@ -16,7 +16,7 @@ use Rattle.fx_c_ast.specs.declared.checked.TGlobal.{TGlobal}
 use Rattle.fx_c_ast.specs.declared.checked.TLocal.{TLocal}
 use Rattle.fx_c_ast.specs.declared.checked.TFunction.{TFunction}
 use Rattle.fx_c_ast.specs.declared.checked.TProgram.{TProgram}
-use Rattle.fx_c_ast.specs.CheckedTrees.{TyTree, IntTy, ArrayTy, ty_tree, tstmt_trees, member_types, struct_types}
+use Rattle.fx_c_ast.specs.CheckedTrees.{TyTree, VoidTy, IntTy, ArrayTy, ty_tree, tstmt_trees, member_types, struct_types}
 use Rattle.fx_c_ast.specs.Layout.{type_layout, known_layouts, round_up, IsSized, StructsAreSized}
 use Rattle.fx_c_ast.specs.StackUse as stack
 use Rattle.fx_c_ast.specs.StackUse.{need_stmts, fs}
@@ -24,7 +24,9 @@ use Rattle.fx_c_ast.proofs.Layouts.{size_small, types_length}
 use Rattle.fx_c_typing.specs.Structs as plain
 use Rattle.fx_c_typing.specs.Locals.{LocalTree, local_trees}
 use Rattle.fx_c_heads.specs.Sizes.{known}
-use Rattle.fx_c_heads.specs.Heads.{GlobalHead, is_initial}
+use Rattle.fx_c_typing.specs.Types.{category}
+use Rattle.fx_c_heads.specs.Heads.{GlobalHead, FunctionHead, is_initial}
+use Rattle.fx_c_types.specs.Bodies.{place_16}
 use Rattle.fx_c_heads.specs.HeadsView.{global_tree, global_heads}
 use Rattle.fx_c_heads.proofs.Fields.{types_are, length-struct_trees}
 use Rattle.fx_c_frames.specs.Frames.{slots_size}
@@ -33,7 +35,7 @@ use Rattle.fx_shadow.specs.Frames.{HasFrame, HasFrames}
 use Rattle.fx_sections.specs.Initials.{before_used, used_bytes, initial_bytes}
 use Rattle.fx_sections.specs.Placement.{IsPlaceable, initial_total, literal_sizes}
 use Rattle.fx_c_check.specs.Programs as program
-use Rattle.fx_c_check.specs.Programs.{ProgramTree}
+use Rattle.fx_c_check.specs.Programs.{ProgramTree, has_none, gives_status}
 use Rattle.fx_c_check.specs.ProgramView.{declarations, function_tree, function_trees, program_tree}
 use Rattle.fx_c_check.specs.declared.program.SourceFile.{SourceFile}
 use Rattle.fx_c_check_law.specs.Laws.{IsChecked}
@@ -41,7 +43,7 @@ use Rattle.fx_c_check_law.proofs.Known.{Agree, Describes, type_same, sized_same,
 use Rattle.fx_c_check_law.proofs.Ends.{Ends}
 use Rattle.fx_c_check_law.proofs.Heads.{all_types, IsSizedLocal, IsSizedGlobal}
 use Rattle.fx_c_check_law.proofs.Bodies.{IsText}
-use Rattle.fx_c_check_law.proofs.Programs.{HasFrameIn, IsAccepted, accepted}
+use Rattle.fx_c_check_law.proofs.Programs.{HasFrameIn, IsOf, IsAccepted, accepted}
 
 types_same : (ss : List TStruct) → all_types (plain.struct_trees ss) ≡ struct_types ss
 types_same [] = refl
@@ -137,6 +139,34 @@ module _ (p : TProgram) (count : ℕ) (has : IsAccepted count (program_tree p)) 
 
   pub few : (length p.globals ≤ count) × (length p.functions ≤ count)
   few = (rw (length-globals p.globals) at has.few_globals, rw (length-functions p.functions) at has.few_functions)
+
+tree_at : (fs : List TFunction) (n : ℕ) (d : TFunction) → n < length fs → get_or (function_trees fs) n (function_tree d) ≡ function_tree (get_or fs n d)
+tree_at [] n d less = absurd (omega arith)
+tree_at (f ∷ fs) zero d less = refl
+tree_at (f ∷ fs) (suc n) d less = tree_at fs n d (omega arith)
+
+no_params : (ls : List LocalTree) → has_none ls ≡ true → length ls ≡ 0
+no_params [] h = refl
+no_params (l ∷ ls) h = cc
+
+both : (a b : Bool) → (a && b) ≡ true → (a ≡ true) × (b ≡ true)
+both true b h = (refl, h)
+both false b h = absurd cc
+
+module _ (p : TProgram) (count : ℕ) (has : IsAccepted count (program_tree p)) where
+  pub few_params : All (λ (f : TFunction). f.params ≤ 6) p.functions
+  few_params = All-weaker (λ f. HasFrameIn has.heads (function_tree f)) (λ (f : TFunction). f.params ≤ 6) (λ f frame. frame.few) p.functions (functions_all (HasFrameIn has.heads) p.functions has.functions)
+
+  pub main_there : p.main < length p.functions
+  main_there = omega (arith, length-functions p.functions, has.same_count, has.start.0)
+
+  pub main_starts : (d : TFunction) → ((get_or p.functions p.main d).params ≡ 0) × (gives_status (category (ty_tree (get_or p.functions p.main d).result)) ≡ true)
+  main_starts d =
+      let e : FunctionHead = record { library = 0; entry = false; answer = VoidTy; name = []; params = [] } in
+      let f : FunctionHead = get_or has.heads.functions p.main e in
+      let start = both (has_none f.params) (gives_status (category f.answer)) (has.start.1 e) in
+      let same : IsOf f (function_tree (get_or p.functions p.main d)) = rw (tree_at p.functions p.main d main_there) at (has.of_heads p.main e (function_tree d) (omega (arith, length-functions p.functions, main_there))) in
+      (same.0 ∙ ap place_16 (no_params f.params start.0), ap (λ (t : TyTree). gives_status (category t)) same.1 ∙ start.1)
 
 sum_small : (ls : List (List ℕ)) → All IsText ls → sum (map (λ (l : List ℕ). length l) ls) ≤ 67108864 * length ls
 sum_small [] all = omega arith

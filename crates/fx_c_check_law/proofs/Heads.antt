@@ -48,7 +48,7 @@ abbrev pub IsSizedGlobal : List Layout → ℕ → GlobalHead → Type 0
 IsSizedGlobal layouts bound g = IsSized (known layouts) bound g.ty × (is_initial g.ty g.init ≡ true)
 
 abbrev pub HasScalars : List Layout → FunctionHead → Type 0
-HasScalars layouts f = All (IsSizedLocal layouts 0) f.params
+HasScalars layouts f = All (IsSizedLocal layouts 0) f.params × (length f.params ≤ 6)
 
 pub record IsSound (h : HeadsTree) : Type 0 where
   pub same : length h.layouts ≡ length h.structs
@@ -131,9 +131,11 @@ more_global h l is g sized = (
 )
 
 more_scalars : (h : HeadsTree) (l : Layout) (f : FunctionHead) → HasScalars h.layouts f → HasScalars (h.layouts ++ l ∷ []) f
-more_scalars h l f are =
-    All-weaker (IsSizedLocal h.layouts 0) (IsSizedLocal (h.layouts ++ l ∷ []) 0)
-    (λ p sized. sized_same (known h.layouts) (known (h.layouts ++ l ∷ [])) 0 (λ m less. absurd (omega arith)) p.ty sized) f.params are
+more_scalars h l f are = (
+  All-weaker (IsSizedLocal h.layouts 0) (IsSizedLocal (h.layouts ++ l ∷ []) 0)
+      (λ p sized. sized_same (known h.layouts) (known (h.layouts ++ l ∷ [])) 0 (λ m less. absurd (omega arith)) p.ty sized) f.params are.0,
+  are.1,
+)
 
 with_struct_sound : (h : HeadsTree) (l : Layout) (name : List ℕ) (ms : List plain.MemberTree) → IsSound h → AreObjects (place_32 (length h.structs)) (types_of ms) → IsLayout h.layouts ms l → IsSound (with_struct h l name ms)
 with_struct_sound h l name ms is objects layout =
@@ -159,11 +161,18 @@ structs_in (StructTree name members) = 1
 structs_in (GlobalTree grant readers ty name init) = 0
 structs_in (FunctionTree entry answer name params body) = 0
 
+-- how many functions it declares
+abbrev pub functions_in : DeclTree → ℕ
+functions_in (StructTree name members) = 0
+functions_in (GlobalTree grant readers ty name init) = 0
+functions_in (FunctionTree entry answer name params body) = 1
+
 -- what a declaration's head leaves
 pub record Follows (h : HeadsTree) (d : DeclTree) (g : HeadsTree) : Type 0 where
   pub sound : IsSound g
   pub structs : length g.structs ≡ length h.structs + structs_in d
   pub globals : length g.globals ≤ length h.globals + 1
+  pub functions : length g.functions ≡ length h.functions + functions_in d
 
 struct_ends : (h : HeadsTree) (name : List ℕ) (members : List (TypeTree × List ℕ)) → IsSound h → Ends (Follows h (StructTree name members)) (struct_head h name members)
 struct_ends h name members is =
@@ -176,6 +185,7 @@ struct_ends h name members is =
       sound = with_struct_sound h layout name ms is objects has;
       structs = simp length-append;
       globals = omega arith;
+      functions = omega arith;
     }))))
 
 with_global_sound : (h : HeadsTree) (g : GlobalHead) → IsSound h → IsSizedGlobal h.layouts (length h.structs) g → IsSound (with_global h g)
@@ -199,6 +209,7 @@ global_ends h library grant readers t name init is =
       sound = with_global_sound h (made ty) is (more_bound (known h.layouts) bound (length h.structs) ty (min-le_left (length h.structs) 4294967295) (rw has.0 has.1), initial);
       structs = omega arith;
       globals = simp length-append (omega arith);
+      functions = omega arith;
     })))
 
 scalar_sized : (tags : List (List ℕ × ℕ)) (layouts : List Layout) (t : TypeTree) → is_scalar (written_category t) ≡ true → IsSized (known layouts) 0 (ty_of tags t)
@@ -214,6 +225,10 @@ params_sized tags layouts (p ∷ ps) h =
     All-cons (IsSizedLocal layouts 0) (record { shared = p.shared; ty = ty_of tags p.ty }) (params_of tags ps)
     (scalar_sized tags layouts p.ty (and_right (is_named tags p.ty) (is_scalar (written_category p.ty)) (and_left (is_param tags p.ty) (are_params tags ps) h)))
     (params_sized tags layouts ps (and_right (is_param tags p.ty) (are_params tags ps) h))
+
+length-params : (tags : List (List ℕ × ℕ)) (ps : List ParamTree) → length (params_of tags ps) ≡ length ps
+length-params tags [] = refl
+length-params tags (p ∷ ps) = ap suc (length-params tags ps)
 
 with_function_sound : (h : HeadsTree) (f : FunctionHead) → IsSound h → HasScalars h.layouts f → IsSound (with_function h f)
 with_function_sound h f is sized = record {
@@ -235,9 +250,10 @@ function_ends h library entry answer name params body is =
     demand_ends Q (not (repeats [] (param_names params))) Twice types (λ apart.
     demand_ends Q (is_answer h.tags answer && are_params h.tags params) UnknownType few (λ typed.
     demand_ends Q (nat_le (length params) 6) TooManyParameters last (λ six. record {
-      sound = with_function_sound h made is (params_sized h.tags h.layouts params (and_right (is_answer h.tags answer) (are_params h.tags params) typed));
+      sound = with_function_sound h made is (params_sized h.tags h.layouts params (and_right (is_answer h.tags answer) (are_params h.tags params) typed), rw (length-params h.tags params) (leb-true (length params) 6 six));
       structs = omega arith;
       globals = omega arith;
+      functions = simp length-append;
     }))))
 
 pub head_ends : (h : HeadsTree) (library : ℕ) (d : DeclTree) → IsSound h → Ends (Follows h d) (head h library d)

@@ -1,12 +1,15 @@
 -- What later stages need of a program that the check accepts.
-use Rattle.std.specs.Prelude.{◌≡◌, ◌+◌, ◌<◌, ◌≤◌, ◌^◌, List, length, Ok}
+use Rattle.std.specs.Prelude.{◌≡◌, true, ◌+◌, ◌<◌, ◌≤◌, ◌^◌, List, length, All, HoldsAt, Ok}
 use Rattle.fx_config.specs.declared.configuration.Config.{Config}
+use Rattle.fx_c_ast.specs.declared.checked.TFunction.{TFunction}
 use Rattle.fx_c_ast.specs.declared.checked.TProgram.{TProgram}
+use Rattle.fx_c_ast.specs.CheckedTrees.{ty_tree}
+use Rattle.fx_c_typing.specs.Types.{category}
 use Rattle.fx_shadow.specs.Frames.{HasFrames}
 use Rattle.fx_grants.specs.declared.grants.Grants.{Grants}
 use Rattle.fx_sections.specs.Placement.{IsPlaceable}
 use Rattle.fx_c_check.specs.declared.program.SourceFile.{SourceFile}
-use Rattle.fx_c_check.specs.Programs.{well_typed}
+use Rattle.fx_c_check.specs.Programs.{gives_status, well_typed}
 use Rattle.fx_c_check.specs.ProgramView.{declarations, program_tree}
 
 -- the program is the one that the files mean, and they keep all rules
@@ -28,3 +31,11 @@ CheckedProgramsArePlaceable = (files : List SourceFile) (p : TProgram) (g : Gran
 abbrev pub CheckedProgramsAreFew : Type 0
 CheckedProgramsAreFew = (files : List SourceFile) (p : TProgram) → IsChecked files p
     → (length p.globals ≤ length (declarations files)) × (length p.functions ≤ length (declarations files))
+
+-- a function takes at most six parameters, and the one that the program begins with is there, takes none and gives an
+-- integer or nothing
+abbrev pub CheckedProgramsStart : Type 0
+CheckedProgramsStart = (files : List SourceFile) (p : TProgram) → IsChecked files p
+    → All (λ (f : TFunction). f.params ≤ 6) p.functions
+    × (p.main < length p.functions)
+    × HoldsAt (λ (f : TFunction). (f.params ≡ 0) × (gives_status (category (ty_tree f.result)) ≡ true)) p.functions p.main

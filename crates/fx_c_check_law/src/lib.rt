@@ -1,7 +1,7 @@
 //! What a program that the check accepts has.
 #![tactic(auto)]
 
-ghost use Rattle.fx_c_check_law.specs.Laws.{CheckedProgramsHaveFrames, CheckedProgramsArePlaceable, CheckedProgramsAreFew};
+ghost use Rattle.fx_c_check_law.specs.Laws.{CheckedProgramsHaveFrames, CheckedProgramsArePlaceable, CheckedProgramsAreFew, CheckedProgramsStart};
 
 /// Structs, parameters and locals have sizes, and frames at most 65,536 bytes.
 pub fn checked_programs_have_frames()
@@ -16,4 +16,9 @@ pub fn checked_programs_are_placeable()
 /// Globals and functions are no more than declarations.
 pub fn checked_programs_are_few()
     ensures { CheckedProgramsAreFew }
+{}
+
+/// At most six parameters, and a function to begin with.
+pub fn checked_programs_start()
+    ensures { CheckedProgramsStart }
 {}
