@@ -30,3 +30,7 @@ at_ends P n (Err fault.OutOfMemory) h = tt
 pub weaker : {A E : Type 0} (P Q : A → Type 0) (r : Result A E) → Ends P r → ((x : A) → P x → Q x) → Ends Q r
 weaker P Q (Ok x) h k = k x h
 weaker P Q (Err e) h k = tt
+
+pub both_end : {A E : Type 0} (P Q : A → Type 0) (r : Result A E) → Ends P r → Ends Q r → Ends (λ x. P x × Q x) r
+both_end P Q (Ok x) h k = (h, k)
+both_end P Q (Err e) h k = tt

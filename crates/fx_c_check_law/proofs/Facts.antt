@@ -38,6 +38,7 @@ use Rattle.fx_c_check.specs.Programs as program
 use Rattle.fx_c_check.specs.Programs.{ProgramTree, has_none, gives_status}
 use Rattle.fx_c_check.specs.ProgramView.{declarations, function_tree, function_trees, program_tree}
 use Rattle.fx_c_check.specs.declared.program.SourceFile.{SourceFile}
+use Rattle.fx_c_check_law.specs.Jumps.{all_inside}
 use Rattle.fx_c_check_law.specs.Laws.{IsChecked}
 use Rattle.fx_c_check_law.proofs.Known.{Agree, Describes, type_same, sized_same, table_is, structs_sized}
 use Rattle.fx_c_check_law.proofs.Ends.{Ends}
@@ -156,6 +157,9 @@ both false b h = absurd cc
 module _ (p : TProgram) (count : ℕ) (has : IsAccepted count (program_tree p)) where
   pub few_params : All (λ (f : TFunction). f.params ≤ 6) p.functions
   few_params = All-weaker (λ f. HasFrameIn has.heads (function_tree f)) (λ (f : TFunction). f.params ≤ 6) (λ f frame. frame.few) p.functions (functions_all (HasFrameIn has.heads) p.functions has.functions)
+
+  pub jumps : All (λ (f : TFunction). all_inside false (tstmt_trees f.body.items) ≡ true) p.functions
+  jumps = All-weaker (λ f. HasFrameIn has.heads (function_tree f)) (λ (f : TFunction). all_inside false (tstmt_trees f.body.items) ≡ true) (λ f frame. frame.inside) p.functions (functions_all (HasFrameIn has.heads) p.functions has.functions)
 
   pub main_there : p.main < length p.functions
   main_there = omega (arith, length-functions p.functions, has.same_count, has.start.0)

@@ -13,11 +13,13 @@ use Rattle.fx_c_frames.specs.Frames.{frame_size}
 use Rattle.fx_c_names.specs.Names.{found}
 use Rattle.fx_c_heads.specs.Sizes.{known}
 use Rattle.fx_c_heads.specs.Heads.{HeadsTree, FunctionHead, no_heads, head}
-use Rattle.fx_c_types.specs.Bodies.{BodyTree, checked_all, place_16}
+use Rattle.fx_c_types.specs.Bodies.{ScopeTree, BodyTree, checked_all, place_16}
 use Rattle.fx_c_check.specs.Programs as program
 use Rattle.fx_c_check.specs.Programs.{PlacedDecl, ProgramTree, at_declaration, ◌>>>◌, tags_of, heads_of, body_from, BodiesTree, no_bodies, function_of, with_function, finished, scope_of, function_body, next_body, body_of, bodies_of, is_start, main_at, main_of, main_number, program_of, well_typed}
-use Rattle.fx_c_check_law.proofs.Ends.{Ends, bind_ends, then_ends, demand_ends, at_ends, weaker}
+use Rattle.fx_c_check_law.proofs.Ends.{Ends, bind_ends, then_ends, demand_ends, at_ends, weaker, both_end}
 use Rattle.fx_c_check_law.proofs.Heads.{IsSizedLocal, HasScalars, IsSound, none_sound, structs_in, functions_in, Follows, head_ends}
+use Rattle.fx_c_check_law.specs.Jumps.{all_inside}
+use Rattle.fx_c_check_law.proofs.Jumps.{all_checked_inside}
 use Rattle.fx_c_check_law.proofs.Bodies.{IsText, IsFine, all_fine}
 
 -- how many structs are declared
@@ -67,6 +69,7 @@ pub record HasFrameIn (h : HeadsTree) (f : program.FunctionTree) : Type 0 where
   pub sized : All (IsSizedLocal h.layouts (length h.structs)) f.locals
   pub small : frame_size h.layouts f.locals f.body ≤ 65536
   pub few : f.params ≤ 6
+  pub inside : all_inside false f.body ≡ true
 
 -- the function of a head
 abbrev pub IsOf : FunctionHead → program.FunctionTree → Type 0
@@ -93,12 +96,12 @@ there [] n less is = absurd (omega arith)
 there (x ∷ fs) zero less is = cc
 there (x ∷ fs) (suc n) less is = there fs n (omega arith) is
 
-finished_ends : (h : HeadsTree) (b : BodiesTree) (f : FunctionHead) (x : TStmtTrees × BodyTree) → HasBodies h b → HasScalars h.layouts f → slice_get h.functions (length b.functions) ≡ Some f → IsFine (scope_of h b f) x.1 → Ends (HasNext h b 0 1) (finished h b f x)
-finished_ends h b f x has scalars at fine =
+finished_ends : (h : HeadsTree) (b : BodiesTree) (f : FunctionHead) (x : TStmtTrees × BodyTree) → HasBodies h b → HasScalars h.layouts f → slice_get h.functions (length b.functions) ≡ Some f → IsFine (scope_of h b f) x.1 → all_inside false x.0 ≡ true → Ends (HasNext h b 0 1) (finished h b f x)
+finished_ends h b f x has scalars at fine inside =
     let made : program.FunctionTree = function_of f x.1.locals x.0 in
     demand_ends (HasNext h b 0 1) (nat_le (frame_size h.layouts x.1.locals x.0) 65536) FrameTooLong (Ok (with_function b x.1.literals made)) (λ short.
     let few : place_16 (length f.params) ≤ length f.params = min-le_left (length f.params) 65535 in
-    let frame : HasFrameIn h made = record { sized = fine.0; small = leb-true (frame_size h.layouts x.1.locals x.0) 65536 short; few = omega (arith, scalars.1) } in
+    let frame : HasFrameIn h made = record { sized = fine.0; small = leb-true (frame_size h.layouts x.1.locals x.0) 65536 short; few = omega (arith, scalars.1); inside = inside } in
     record {
       bodies = record { functions = All-push (HasFrameIn h) b.functions made has.functions frame; literals = fine.1; heads = more_heads made (refl, refl) };
       declared = omega arith;
@@ -120,9 +123,15 @@ scalars_sized h f are = All-weaker (IsSizedLocal h.layouts 0) (IsSizedLocal h.la
 function_ends : (h : HeadsTree) (b : BodiesTree) (f : Option FunctionHead) (params : List ParamTree) (body : StmtTrees) → b.declared ≤ length h.structs → HasBodies h b → length b.functions < length h.functions → slice_get h.functions (length b.functions) ≡ f → ((g : FunctionHead) → f ≡ Some g → HasScalars h.layouts g) → Ends (HasNext h b 0 1) (function_body h b f params body)
 function_ends h b None params body within has less at scalars = absurd (there h.functions (length b.functions) less at)
 function_ends h b (Some f) params body within has less at scalars =
-    bind_ends (λ (x : TStmtTrees × BodyTree). IsFine (scope_of h b f) x.1) (HasNext h b 0 1) (checked_all (scope_of h b f) false (body_from b.literals f params) NoTStmts body) (λ x. finished h b f x)
-    (all_fine (scope_of h b f) within false (body_from b.literals f params) NoTStmts body (scalars_sized h f (scalars f refl), has.literals))
-    (λ x fine. finished_ends h b f x has (scalars f refl) at fine)
+    let s : ScopeTree = scope_of h b f in
+    let from : BodyTree = body_from b.literals f params in
+    let Fine : TStmtTrees × BodyTree → Type 0 = λ x. IsFine s x.1 in
+    let Inside : TStmtTrees × BodyTree → Type 0 = λ x. all_inside false x.0 ≡ true in
+    bind_ends (λ (x : TStmtTrees × BodyTree). Fine x × Inside x) (HasNext h b 0 1) (checked_all s false from NoTStmts body) (λ x. finished h b f x)
+    (both_end Fine Inside (checked_all s false from NoTStmts body)
+    (all_fine s within false from NoTStmts body (scalars_sized h f (scalars f refl), has.literals))
+    (all_checked_inside s false from NoTStmts body refl))
+    (λ x both. finished_ends h b f x has (scalars f refl) at both.0 both.1)
 
 head_there : (P : FunctionHead → Type 0) (fs : List FunctionHead) (n : ℕ) (g : FunctionHead) → All P fs → slice_get fs n ≡ Some g → P g
 head_there P [] n g all is = cc

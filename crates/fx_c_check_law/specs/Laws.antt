@@ -1,14 +1,15 @@
 -- What later stages need of a program that the check accepts.
-use Rattle.std.specs.Prelude.{◌≡◌, true, ◌+◌, ◌<◌, ◌≤◌, ◌^◌, List, length, All, HoldsAt, Ok}
+use Rattle.std.specs.Prelude.{◌≡◌, false, true, ◌+◌, ◌<◌, ◌≤◌, ◌^◌, List, length, All, HoldsAt, Ok}
 use Rattle.fx_config.specs.declared.configuration.Config.{Config}
 use Rattle.fx_c_ast.specs.declared.checked.TFunction.{TFunction}
 use Rattle.fx_c_ast.specs.declared.checked.TProgram.{TProgram}
-use Rattle.fx_c_ast.specs.CheckedTrees.{ty_tree}
+use Rattle.fx_c_ast.specs.CheckedTrees.{ty_tree, tstmt_trees}
 use Rattle.fx_c_typing.specs.Types.{category}
 use Rattle.fx_shadow.specs.Frames.{HasFrames}
 use Rattle.fx_grants.specs.declared.grants.Grants.{Grants}
 use Rattle.fx_sections.specs.Placement.{IsPlaceable}
 use Rattle.fx_c_check.specs.declared.program.SourceFile.{SourceFile}
+use Rattle.fx_c_check_law.specs.Jumps.{all_inside}
 use Rattle.fx_c_check.specs.Programs.{gives_status, well_typed}
 use Rattle.fx_c_check.specs.ProgramView.{declarations, program_tree}
 
@@ -39,3 +40,8 @@ CheckedProgramsStart = (files : List SourceFile) (p : TProgram) → IsChecked fi
     → All (λ (f : TFunction). f.params ≤ 6) p.functions
     × (p.main < length p.functions)
     × HoldsAt (λ (f : TFunction). (f.params ≡ 0) × (gives_status (category (ty_tree f.result)) ≡ true)) p.functions p.main
+
+-- each `break` and `continue` stands in a loop
+abbrev pub CheckedProgramsJumpInLoops : Type 0
+CheckedProgramsJumpInLoops = (files : List SourceFile) (p : TProgram) → IsChecked files p
+    → All (λ (f : TFunction). all_inside false (tstmt_trees f.body.items) ≡ true) p.functions

@@ -1,7 +1,7 @@
 //! What a program that the check accepts has.
 #![tactic(auto)]
 
-ghost use Rattle.fx_c_check_law.specs.Laws.{CheckedProgramsHaveFrames, CheckedProgramsArePlaceable, CheckedProgramsAreFew, CheckedProgramsStart};
+ghost use Rattle.fx_c_check_law.specs.Laws.{CheckedProgramsHaveFrames, CheckedProgramsArePlaceable, CheckedProgramsAreFew, CheckedProgramsStart, CheckedProgramsJumpInLoops};
 
 /// Structs, parameters and locals have sizes, and frames at most 65,536 bytes.
 pub fn checked_programs_have_frames()
@@ -21,4 +21,9 @@ pub fn checked_programs_are_few()
 /// At most six parameters, and a function to begin with.
 pub fn checked_programs_start()
     ensures { CheckedProgramsStart }
+{}
+
+/// Each `break` and `continue` stands in a loop.
+pub fn checked_programs_jump_in_loops()
+    ensures { CheckedProgramsJumpInLoops }
 {}
