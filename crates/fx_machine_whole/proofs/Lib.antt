@@ -2,6 +2,7 @@ pub mod Spaces
 pub mod ByPlace
 pub mod Reach
 pub mod Held
+pub mod Words
 pub mod Holding
 pub mod Performing
 pub mod Turning

@@ -1,5 +1,7 @@
 -- What a machine keeps of memory: the bytes of four regions, over those of the image at boot.
-use Rattle.std.specs.Prelude.{ℕ, ◌≡◌, ◌-◌, Bool, false, nat_le, nat_lt, if◌then◌else◌, length, Option, None, slice_get, unwrap_or}
+use Rattle.std.specs.Prelude.{ℕ, ◌≡◌, ◌+◌, ◌-◌, ◌≤◌, Bool, false, nat_le, nat_lt, if◌then◌else◌, length, Option, None, slice_get, unwrap_or}
+use Rattle.fx_x64_forms.specs.Numbers.{width_bytes}
+use Rattle.fx_x64_forms.specs.declared.operand.Width.{Width}
 use Rattle.fx_image.specs.Layout.{first_stack}
 use Rattle.fx_image.specs.declared.forms.Image.{Image}
 use Rattle.fx_machine.specs.Layout.{is_ept}
@@ -45,3 +47,9 @@ pub record IsLaidOut (image : Image) (memory : Memory) : Type 0 where
   pub sections : length memory.sections.items ≡ sections_length image
   pub word : length memory.word.items ≡ 4096
   pub mail : length memory.mail.items ≡ mail_length image
+
+-- All bytes of a word at an address are in a region of this size from `start` on, and below `end`.
+pub record HasWord (start end size : ℕ) (width : Width) (address : ℕ) : Type 0 where
+  pub from : start ≤ address
+  pub below : address + width_bytes width ≤ end
+  pub inside : address - start + width_bytes width ≤ size

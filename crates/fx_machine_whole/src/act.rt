@@ -12,7 +12,7 @@ ghost use Rattle.fx_machine_whole.specs.Memory.{memory_of, IsLaidOut};
 
 use crate::check::{Reach, look};
 use crate::code::Code;
-use crate::fetch::fetch;
+use crate::fetch::{fetch, fetch_line};
 use crate::layout::is_ept;
 use crate::memory::Memory;
 use crate::pages::Pages;
@@ -142,7 +142,7 @@ fn operation(device: u16, address: u64, write: bool, value: u64) -> DeviceOp
 }
 
 /// Does an instruction that loads.
-#[inline]
+#[inline(always)]
 fn read(
     image: &Image,
     pages: &mut Pages,
@@ -185,7 +185,7 @@ fn read(
 }
 
 /// Does an instruction that stores.
-#[inline]
+#[inline(always)]
 fn write(
     image: &Image,
     pages: &mut Pages,
@@ -231,7 +231,7 @@ fn write(
 }
 
 /// Does an instruction of a length.
-#[inline]
+#[inline(always)]
 fn perform(
     image: &Image,
     pages: &mut Pages,
@@ -264,6 +264,32 @@ fn perform(
     }
 }
 
+/// Does the instruction at RIP, whose bytes are fetched one at a time.
+#[inline(never)]
+fn instruct_by_byte(
+    image: &Image,
+    pages: &mut Pages,
+    memory: &mut Memory,
+    vcpu: u8,
+    r: &mut Regs,
+) -> Act
+    requires whole { IsImage image.now }
+    requires few { vcpu < 16 }
+    requires agree { Agrees image.now pages.old }
+    requires laid { IsLaidOut image.now memory.old }
+    ensures acts { ActsBy (λ answers. move image.now vcpu r.old (world (memory_of image.now memory.old) answers)) r.old (memory_of image.now memory.old) result r.new (memory_of image.now memory.new) }
+    ensures agree { Agrees image.now pages.new }
+    ensures laid { IsLaidOut image.now memory.new }
+{
+    match fetch(image, pages, memory, vcpu, r) {
+        Fetched::Found { inst, length } => { perform(image, pages, memory, vcpu, r, &inst, length) }
+        Fetched::RefusedAt { first } => {
+            Act::Halts(refused(image, vcpu, r.pkru, Access::Fetch, first))
+        }
+        Fetched::Unspelled => Act::Halts(Stop::Invalid),
+    }
+}
+
 /// Does the instruction at RIP.
 #[inline]
 pub fn instruct(
@@ -283,11 +309,8 @@ pub fn instruct(
     ensures agree { Agrees image.now pages.new }
     ensures laid { IsLaidOut image.now memory.new }
 {
-    match fetch(image, code, pages, memory, vcpu, r) {
-        Fetched::Found { inst, length } => { perform(image, pages, memory, vcpu, r, &inst, length) }
-        Fetched::RefusedAt { first } => {
-            Act::Halts(refused(image, vcpu, r.pkru, Access::Fetch, first))
-        }
-        Fetched::Unspelled => Act::Halts(Stop::Invalid),
+    match fetch_line(image, code, pages, vcpu, r) {
+        Some((inst, length)) => perform(image, pages, memory, vcpu, r, inst, length),
+        None => instruct_by_byte(image, pages, memory, vcpu, r),
     }
 }

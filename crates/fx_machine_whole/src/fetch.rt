@@ -21,8 +21,8 @@ use fx_vm_pages::access::Access;
 use fx_x64_code::decode::decode;
 use fx_x64_forms::inst::Inst;
 
-/// Fetches bytes one at a time from RIP until they are a spelling, fifteen at most.
-fn fetch_bytes(image: &Image, pages: &mut Pages, memory: &Memory, vcpu: u8, r: &Regs) -> Fetched
+/// Fetches the instruction at RIP: bytes one at a time until they are a spelling, fifteen at most.
+pub fn fetch(image: &Image, pages: &mut Pages, memory: &Memory, vcpu: u8, r: &Regs) -> Fetched
     requires whole { IsImage image.now }
     requires few { vcpu < 16 }
     requires agree { Agrees image.now pages.old }
@@ -49,21 +49,21 @@ fn fetch_bytes(image: &Image, pages: &mut Pages, memory: &Memory, vcpu: u8, r: &
     Fetched::Unspelled
 }
 
-/// Fetches an instruction that was decoded beforehand, where it stands in one page of code that the vCPU may
-/// fetch from.
+/// The instruction at RIP with its length, where it was decoded beforehand and stands in one page of code
+/// that the vCPU may fetch from.
 #[inline]
-fn fetch_line(
+pub fn fetch_line<'a>(
     image: &Image,
-    code: &Code,
+    code: &'a Code,
     pages: &mut Pages,
     vcpu: u8,
     r: &Regs,
-) -> Option<(Inst, u64)>
+) -> Option<(&'a Inst, u64)>
     requires whole { IsImage image.now }
     requires decoded { IsDecoded image.now code.now }
     requires few { vcpu < 16 }
     requires agree { Agrees image.now pages.old }
-    ensures value { IfSome result (λ f. (memory : Memory) → fetched (page_entry image.now vcpu) r.now.pkru (memory_of image.now memory) r.now.rip 15 [] ≡ Found f.0 f.1) }
+    ensures value { IfSome result (λ f. (memory : Memory) → fetched (page_entry image.now vcpu) r.now.pkru (memory_of image.now memory) r.now.rip 15 [] ≡ Found f.0.now f.1) }
     ensures agree { Agrees image.now pages.new }
 {
     if r.rip < 0x40_0000 {
@@ -73,9 +73,9 @@ fn fetch_line(
     if at >= code.lines.len() as u64 {
         return None;
     }
-    let (inst, length) = match code.lines[at as usize] {
+    let (inst, length) = match &code.lines[at as usize] {
         Line::Unspelled => return None,
-        Line::Spelled { inst, length } => (inst, u64::from(length)),
+        Line::Spelled { inst, length } => (inst, u64::from(*length)),
     };
     if r.rip % 4096 + length > 4096 {
         return None;
@@ -83,28 +83,5 @@ fn fetch_line(
     match check_byte(pages, image, vcpu, r.pkru, Access::Fetch, r.rip) {
         Some(_) => None,
         None => Some((inst, length)),
-    }
-}
-
-/// Fetches the instruction at RIP: bytes one at a time until they are a spelling, fifteen at most.
-#[inline]
-pub fn fetch(
-    image: &Image,
-    code: &Code,
-    pages: &mut Pages,
-    memory: &Memory,
-    vcpu: u8,
-    r: &Regs,
-) -> Fetched
-    requires whole { IsImage image.now }
-    requires decoded { IsDecoded image.now code.now }
-    requires few { vcpu < 16 }
-    requires agree { Agrees image.now pages.old }
-    ensures value { result ≡ fetched (page_entry image.now vcpu) r.now.pkru (memory_of image.now memory.now) r.now.rip 15 [] }
-    ensures agree { Agrees image.now pages.new }
-{
-    match fetch_line(image, code, pages, vcpu, r) {
-        Some((inst, length)) => Fetched::Found { inst, length },
-        None => fetch_bytes(image, pages, memory, vcpu, r),
     }
 }

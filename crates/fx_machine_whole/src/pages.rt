@@ -50,7 +50,7 @@ impl Pages {
     }
 
     /// The entry of a page in the address space of this number.
-    #[inline]
+    #[inline(always)]
     #[tactic(auto, using(crate::proofs::ByPlace::entry_keyed))]
     pub fn entry(&mut self, image: &Image, space: u8, page: u64) -> Option<Entry>
         requires whole { IsImage image.now }
@@ -61,12 +61,40 @@ impl Pages {
         ensures agree { Agrees image.now self.new }
     {
         let at = ((page ^ (page >> 8)) % 64) as usize;
-        let slot = self.slots[at];
+        self.keep(image, at, space, page);
+        self.slots[at].entry
+    }
+
+    /// Sees to it that the buffer has a page's entry at a place.
+    #[inline(always)]
+    fn keep(&mut self, image: &Image, at: usize, space: u8, page: u64)
+        requires whole { IsImage image.now }
+        requires few { space < 16 }
+        requires there { at < 64 }
+        requires agree { Agrees image.now self.old }
+        ensures space { (d : Slot) → (slice_index_or self.new.slots at d).space ≡ space }
+        ensures page { (d : Slot) → (slice_index_or self.new.slots at d).page ≡ page }
+        ensures agree { Agrees image.now self.new }
+    {
+        let slot = &self.slots[at];
         if slot.space == space && slot.page == page {
-            return slot.entry;
+            return;
         }
+        self.fill(image, at, space, page);
+    }
+
+    /// Takes a page's entry into the buffer.
+    #[inline(never)]
+    fn fill(&mut self, image: &Image, at: usize, space: u8, page: u64)
+        requires whole { IsImage image.now }
+        requires few { space < 16 }
+        requires there { at < 64 }
+        requires agree { Agrees image.now self.old }
+        ensures space { (d : Slot) → (slice_index_or self.new.slots at d).space ≡ space }
+        ensures page { (d : Slot) → (slice_index_or self.new.slots at d).page ≡ page }
+        ensures agree { Agrees image.now self.new }
+    {
         let entry = entry(image, space, page);
         self.slots[at] = Slot { space, page, entry };
-        entry
     }
 }

@@ -2,7 +2,7 @@ use Rattle.std.proofs.Common.{◌≡◌, ℕ}
 use Rattle.fx_image.specs.declared.forms.Image.{Image}
 use Rattle.fx_machine_whole.specs.Memory.{memory_of, is_held, IsLaidOut}
 use Rattle.fx_machine.proofs.Writing.{partly}
-use Rattle.fx_machine_whole.proofs.memory.Memory.store.Given as goal
+use Rattle.fx_machine_whole.proofs.memory.Memory.store_bytes.Given as goal
 
 abbrev pub invariant-loop-i : goal.invariant-loop-i
 invariant-loop-i l = record {

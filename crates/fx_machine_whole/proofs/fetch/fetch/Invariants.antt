@@ -3,7 +3,7 @@ use Rattle.fx_machine.specs.Layout.{page_entry}
 use Rattle.fx_machine.specs.Moves.{fetched}
 use Rattle.fx_machine_whole.specs.Agree.{Agrees}
 use Rattle.fx_machine_whole.specs.Memory.{memory_of}
-use Rattle.fx_machine_whole.proofs.fetch.fetch_bytes.Given as goal
+use Rattle.fx_machine_whole.proofs.fetch.fetch.Given as goal
 
 -- what is found from here on is what is found from the start
 abbrev pub invariant-loop-n : goal.invariant-loop-n

@@ -6,7 +6,7 @@ use Rattle.fx_machine.specs.Layout.{page_entry}
 use Rattle.fx_machine.specs.Moves.{fetched}
 use Rattle.fx_machine.proofs.Fetching.{at_end, by_refused, by_found, by_none}
 use Rattle.fx_machine_whole.specs.Memory.{memory_of}
-use Rattle.fx_machine_whole.proofs.fetch.fetch_bytes.Goals as goal
+use Rattle.fx_machine_whole.proofs.fetch.fetch.Goals as goal
 
 pub returns-in-Some-clause-value : goal.returns-in-Some-clause-value
 returns-in-Some-clause-value c =
