@@ -20,7 +20,7 @@ use Rattle.fx_machine.specs.declared.stop.Turn.TheVariants as turns
 use Rattle.fx_machine_whole.specs.Acting.{world, answered, ActsBy}
 use Rattle.fx_machine_whole.specs.Memory.{memory_of}
 use Rattle.fx_machine_whole.specs.Operations.{Operated}
-use Rattle.fx_machine_whole.specs.Turns.{running_of, cpus_of, made_of, asked, console_load, GoesOn, MakesTurn, Turned, Waits}
+use Rattle.fx_machine_whole.specs.Turns.{Running, running_of, cpus_of, made_of, asked, console_load, GoesOn, MakesTurn, Turned, Waits}
 use Rattle.fx_machine_whole.specs.declared.memory.Memory.{Memory}
 use Rattle.fx_machine_whole.specs.declared.act.Act.{Act}
 use Rattle.fx_machine_whole.specs.declared.act.Act.TheVariants.{Done, Operation, Halts}
@@ -145,6 +145,15 @@ turned_by image image2 memory new cpus list bus now stop stop2 v c t going is sa
     (subst (λ s. Turned (running_of image memory cpus bus None) v t (running_of image2 new list now s)) (sym none)
     (subst (λ i. Turned (running_of image memory cpus bus None) v t (running_of i new list now None)) (sym same)
     (subst (λ k. MakesTurn (running_of image memory cpus bus None) k t (running_of image new list now None)) is h)))
+
+-- a turn of the machine as it was, where nothing has changed that contracts see
+pub turned_from : (image image2 : Image) (memory memory2 : Memory) (cpus cpus2 : List Regs) (bus : BusState) (stop stop2 : Option Stop) (v : ℕ) (t : Turn) (after : Running) → image2 ≡ image → memory2 ≡ memory → cpus2 ≡ cpus → stop2 ≡ stop
+    → Turned (running_of image2 memory2 cpus2 bus stop2) v t after → Turned (running_of image memory cpus bus stop) v t after
+turned_from image image2 memory memory2 cpus cpus2 bus stop stop2 v t after p q r s h =
+    subst (λ x. Turned (running_of image memory cpus bus x) v t after) s
+    (subst (λ x. Turned (running_of image memory x bus stop2) v t after) r
+    (subst (λ x. Turned (running_of image x cpus2 bus stop2) v t after) q
+    (subst (λ x. Turned (running_of x memory2 cpus2 bus stop2) v t after) p h)))
 
 pub gave_by : (image image2 : Image) (memory new : Memory) (cpus list : List Regs) (bus now : BusState) (stop stop2 : Option Stop) (v c answer : ℕ) → stop ≡ None → c ≡ v % vcpus image → image2 ≡ image → stop2 ≡ stop
     → GoesOn (running_of image memory cpus bus None) c (console_load answer ∷ []) (running_of image new list now None) → GoesOn (running_of image memory cpus bus stop) (v % vcpus image) (console_load answer ∷ []) (running_of image2 new list now stop2)

@@ -21,6 +21,7 @@ use Rattle.fx_machine.specs.Regions.{word_start, sections_start, stacks_length}
 use Rattle.fx_outcomes.proofs.Follows.{nat_split}
 use Rattle.fx_machine.proofs.Checks.{each_free, first_free}
 use Rattle.fx_machine.proofs.Bounds.{both}
+use Rattle.fx_machine_whole.specs.Reaching.{IsPlain}
 use Rattle.fx_machine_whole.specs.Memory.{mail_start, is_held, IsLaidOut}
 use Rattle.fx_machine_whole.specs.declared.memory.Memory.{Memory}
 use Rattle.fx_machine_whole.proofs.Spaces.{none_above}
@@ -46,10 +47,6 @@ has_word m a h top lt = at_word a _ _ _ _ _ h top ∙ lt_yes (a - word_start) (l
 
 has_mail : (m : Memory) (a : ℕ) → mail_start ≤ a → a < word_start → a - mail_start < length m.mail.items → is_held m a ≡ true
 has_mail m a h top lt = at_mail a _ _ _ _ _ h top ∙ lt_yes (a - mail_start) (length m.mail.items) lt
-
-abbrev IsPlain : Option Entry → Type 0
-IsPlain None = Unit {0}
-IsPlain (Some e) = is_device e.flags ≡ false
 
 -- what is asked of the entry of an address: where it may be written and is no device's, a region has it
 abbrev Holds : Memory → ℕ → Pkru → Bool → Option Entry → Type 0

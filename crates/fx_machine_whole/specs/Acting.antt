@@ -3,10 +3,20 @@ use Rattle.std.specs.Prelude.{ℕ, ◌≡◌, true, false, List, [], ◌∷◌}
 use Rattle.fx_outcomes.specs.Runs.{Goes, Stops}
 use Rattle.fx_base.specs.declared.device_op.DeviceOp.{DeviceOp}
 use Rattle.fx_x64_forms.specs.declared.inst.Inst.{Inst}
+use Rattle.fx_x64_forms.specs.Numbers.{width_bytes}
+use Rattle.fx_vm_pages.specs.declared.entry.Pkru.{Pkru}
+use Rattle.fx_vm_pages.specs.declared.access.Access.TheVariants.{Read, Write}
+use Rattle.fx_cpu.specs.Memory.{word_at, stored}
+use Rattle.fx_cpu.specs.declared.need.Need.{Need}
+use Rattle.fx_cpu.specs.declared.need.Need.TheVariants.{Quiet, Reads, Writes, Stops as NeedStops}
+use Rattle.fx_image.specs.declared.forms.Image.{Image}
 use Rattle.fx_cpu.specs.Registers.{past}
 use Rattle.fx_cpu.specs.Does.{finish}
 use Rattle.fx_cpu.specs.declared.registers.Regs.{Regs}
+use Rattle.fx_machine.specs.Layout.{page_entry}
 use Rattle.fx_machine.specs.Moves.{World, Move}
+use Rattle.fx_machine_whole.specs.Reaching.{reach_of}
+use Rattle.fx_machine_whole.specs.declared.check.Reach.TheVariants.{Memory}
 use Rattle.fx_machine_whole.specs.declared.act.Act.{Act}
 use Rattle.fx_machine_whole.specs.declared.act.Act.TheVariants.{Done, Operation, Halts}
 
@@ -28,3 +38,11 @@ abbrev pub ActsBy : (List ℕ → Move) → Regs → (ℕ → ℕ) → Act → R
 ActsBy go r memory Done after new = (answers : List ℕ) → go answers ≡ Goes [] (after, world new answers)
 ActsBy go r memory (Operation i len op) after new = Operates go r memory i len op × (after ≡ r) × (new ≡ memory)
 ActsBy go r memory (Halts stop) after new = ((answers : List ℕ) → go answers ≡ Stops [] stop) × (after ≡ r) × (new ≡ memory)
+
+-- An access to memory was made for what an instruction asks for: the value that was read, 0 where none was,
+-- and memory after it.
+abbrev pub Accesses : Image → ℕ → Pkru → (ℕ → ℕ) → Need → ℕ → (ℕ → ℕ) → Type 0
+Accesses image vcpu pkru memory Quiet value new = (value ≡ 0) × (new ≡ memory)
+Accesses image vcpu pkru memory (Reads w a) value new = (reach_of (page_entry image vcpu) pkru Read a (width_bytes w) ≡ Memory) × (value ≡ word_at memory w a) × (new ≡ memory)
+Accesses image vcpu pkru memory (Writes w a v) value new = (reach_of (page_entry image vcpu) pkru Write a (width_bytes w) ≡ Memory) × (value ≡ 0) × (new ≡ stored memory w a v)
+Accesses image vcpu pkru memory (NeedStops trap) value new = ⊥

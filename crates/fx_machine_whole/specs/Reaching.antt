@@ -1,5 +1,6 @@
 -- What an access comes to.
-use Rattle.std.specs.Prelude.{ℕ, Option, Some, None}
+use Rattle.std.specs.Prelude.{ℕ, ◌≡◌, false, Option, Some, None}
+use Rattle.fx_vm_pages.specs.Entries.{is_device}
 use Rattle.fx_vm_pages.specs.Access.{access_check, page_of}
 use Rattle.fx_vm_pages.specs.declared.entry.Entry.{Entry}
 use Rattle.fx_vm_pages.specs.declared.entry.Pkru.{Pkru}
@@ -21,3 +22,8 @@ reach_by (Some first) device = Refused first
 abbrev pub reach_of : (ℕ → Option Entry) → Pkru → Access → ℕ → ℕ → Reach
 reach_of entries pkru access address bytes =
     reach_by (access_check entries pkru access address bytes) (device_at (entries (page_of address)) address)
+
+-- A page that isn't a device's.
+abbrev pub IsPlain : Option Entry → Type 0
+IsPlain None = Unit {0}
+IsPlain (Some e) = is_device e.flags ≡ false

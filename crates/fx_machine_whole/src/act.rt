@@ -1,16 +1,16 @@
 //! What one instruction does to registers and memory.
 
-ghost use Rattle.std.specs.Prelude.{◌≡◌, ◌≢◌, ◌+◌, ◌<◌, None, length};
+ghost use Rattle.std.specs.Prelude.{◌≡◌, ◌≢◌, ◌+◌, ◌<◌, false, None, IfSome, IsTrue, length};
 ghost use Rattle.fx_cpu.specs.Registers.{past};
 ghost use Rattle.fx_cpu.specs.Does.{need, finish};
 ghost use Rattle.fx_image.specs.Rules.{IsImage};
 ghost use Rattle.fx_machine.specs.Moves.{holder, domain_of, trapped, refused, operation, perform, move};
-ghost use Rattle.fx_machine_whole.specs.Acting.{world, ActsBy};
+ghost use Rattle.fx_machine_whole.specs.Acting.{world, ActsBy, Accesses};
 ghost use Rattle.fx_machine_whole.specs.Agree.{Agrees};
 ghost use Rattle.fx_machine_whole.specs.Lines.{IsDecoded};
 ghost use Rattle.fx_machine_whole.specs.Memory.{memory_of, IsLaidOut};
 
-use crate::check::{Reach, look};
+use crate::check::{Reach, is_memory, look};
 use crate::code::Code;
 use crate::fetch::{fetch, fetch_line};
 use crate::layout::is_ept;
@@ -27,6 +27,7 @@ use fx_machine::layout::is_keyed;
 use fx_machine::stop::Stop;
 use fx_vm_pages::access::{Access, Refusal};
 use fx_vm_pages::entry::Pkru;
+use fx_word_ops::words::zero_extend;
 use fx_x64_forms::inst::Inst;
 use fx_x64_forms::operand::{Reg, Width};
 
@@ -142,7 +143,6 @@ fn operation(device: u16, address: u64, write: bool, value: u64) -> DeviceOp
 }
 
 /// Does an instruction that loads.
-#[inline(always)]
 fn read(
     image: &Image,
     pages: &mut Pages,
@@ -185,7 +185,6 @@ fn read(
 }
 
 /// Does an instruction that stores.
-#[inline(always)]
 fn write(
     image: &Image,
     pages: &mut Pages,
@@ -231,7 +230,6 @@ fn write(
 }
 
 /// Does an instruction of a length.
-#[inline(always)]
 fn perform(
     image: &Image,
     pages: &mut Pages,
@@ -291,7 +289,6 @@ fn instruct_by_byte(
 }
 
 /// Does the instruction at RIP.
-#[inline]
 pub fn instruct(
     image: &Image,
     code: &Code,
@@ -312,5 +309,133 @@ pub fn instruct(
     match fetch_line(image, code, pages, vcpu, r) {
         Some((inst, length)) => perform(image, pages, memory, vcpu, r, inst, length),
         None => instruct_by_byte(image, pages, memory, vcpu, r),
+    }
+}
+
+/// Makes an access, if it is to memory in one page and permitted, and gives what was read, 0 where nothing
+/// was. Where it gives nothing, nothing has changed.
+#[inline(always)]
+fn access(
+    image: &Image,
+    pages: &mut Pages,
+    memory: &mut Memory,
+    vcpu: u8,
+    pkru: Pkru,
+    need: Need,
+) -> Option<u64>
+    requires whole { IsImage image.now }
+    requires few { vcpu < 16 }
+    requires agree { Agrees image.now pages.old }
+    requires laid { IsLaidOut image.now memory.old }
+    ensures made { IfSome result (λ value. Accesses image.now vcpu pkru (memory_of image.now memory.old) need value (memory_of image.now memory.new)) }
+    ensures kept { result ≡ None → memory.new ≡ memory.old }
+    ensures agree { Agrees image.now pages.new }
+    ensures laid { IsLaidOut image.now memory.new }
+{
+    match need {
+        Need::Quiet => Some(0),
+        Need::Reads { w, address } => {
+            if !is_memory(pages, image, vcpu, pkru, Access::Read, address, w.bytes()) {
+                return None;
+            }
+            Some(memory.word_at(image, w, address))
+        }
+        Need::Writes { w, address, value } => {
+            if !is_memory(pages, image, vcpu, pkru, Access::Write, address, w.bytes()) {
+                return None;
+            }
+            memory.store(w, address, value);
+            Some(0)
+        }
+        Need::Stops(_) => None,
+    }
+}
+
+/// What an instruction asks of memory, where `next` is the address of the one behind it: the common ones are
+/// told apart here, so that their answers stay in registers.
+#[inline(always)]
+fn asked(inst: &Inst, next: u64, r: &Regs) -> Need
+    ensures { result ≡ need inst.now (record r.now { rip = next }) }
+{
+    match *inst {
+        Inst::Load { w, mem, .. } => Need::Reads {
+            w,
+            address: r.address(mem),
+        },
+        Inst::Store { w, mem, src } => Need::Writes {
+            w,
+            address: r.address(mem),
+            value: zero_extend(w, r.get(src)),
+        },
+        Inst::Mov { .. }
+        | Inst::MovImm { .. }
+        | Inst::Lea { .. }
+        | Inst::Alu { .. }
+        | Inst::AluImm { .. }
+        | Inst::Setcc { .. }
+        | Inst::Jcc { .. }
+        | Inst::Jmp { .. } => Need::Quiet,
+        _ => need_of(inst, next, r),
+    }
+}
+
+/// Does an instruction of a length, if all that it asks for is an access to memory in one page, and
+/// answers whether it is done. Where it isn't, nothing has changed.
+#[inline(always)]
+fn perform_whole(
+    image: &Image,
+    pages: &mut Pages,
+    memory: &mut Memory,
+    vcpu: u8,
+    r: &mut Regs,
+    inst: &Inst,
+    length: u64,
+) -> bool
+    requires whole { IsImage image.now }
+    requires few { vcpu < 16 }
+    requires agree { Agrees image.now pages.old }
+    requires laid { IsLaidOut image.now memory.old }
+    ensures done { IsTrue result → ActsBy (λ answers. perform image.now vcpu inst.now length r.old (world (memory_of image.now memory.old) answers)) r.old (memory_of image.now memory.old) Act.Done r.new (memory_of image.now memory.new) }
+    ensures registers { result ≡ false → r.new ≡ r.old }
+    ensures memory { result ≡ false → memory.new ≡ memory.old }
+    ensures agree { Agrees image.now pages.new }
+    ensures laid { IsLaidOut image.now memory.new }
+{
+    let need = asked(inst, r.rip.wrapping_add(length), r);
+    match access(image, pages, memory, vcpu, r.pkru, need) {
+        Some(value) => {
+            finish(inst, length, r, value);
+            true
+        }
+        None => false,
+    }
+}
+
+/// Does the instruction at RIP, if it was decoded beforehand and all that it asks for is an access to memory
+/// in one page, as nearly all instructions do, and answers whether it is done. Where it isn't, nothing has
+/// changed.
+#[inline(always)]
+pub fn instruct_whole(
+    image: &Image,
+    code: &Code,
+    pages: &mut Pages,
+    memory: &mut Memory,
+    vcpu: u8,
+    r: &mut Regs,
+) -> bool
+    requires whole { IsImage image.now }
+    requires decoded { IsDecoded image.now code.now }
+    requires few { vcpu < 16 }
+    requires agree { Agrees image.now pages.old }
+    requires laid { IsLaidOut image.now memory.old }
+    ensures done { IsTrue result → ActsBy (λ answers. move image.now vcpu r.old (world (memory_of image.now memory.old) answers)) r.old (memory_of image.now memory.old) Act.Done r.new (memory_of image.now memory.new) }
+    ensures registers { result ≡ false → r.new ≡ r.old }
+    ensures memory { result ≡ false → memory.new ≡ memory.old }
+    ensures agree { Agrees image.now pages.new }
+    ensures laid { IsLaidOut image.now memory.new }
+{
+    match fetch_line(image, code, pages, vcpu, r) {
+        Some((inst, length)) => perform_whole(image, pages, memory, vcpu, r, inst, length),
+        None => false,
     }
 }

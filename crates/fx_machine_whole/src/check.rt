@@ -1,12 +1,12 @@
 //! Which accesses the machine refuses, and which are a device's.
 
-ghost use Rattle.std.specs.Prelude.{◌≡◌, ◌≢◌, ◌+◌, ◌%◌, ◌<◌, ◌≤◌, ◌^◌, Option};
+ghost use Rattle.std.specs.Prelude.{◌≡◌, ◌≢◌, ◌+◌, ◌%◌, ◌<◌, ◌≤◌, ◌^◌, IsTrue, Option};
 ghost use Rattle.fx_vm_pages.specs.Access.{HasKey, byte_refusal, refused_from, access_check, page_of, is_register_form};
 ghost use Rattle.fx_image.specs.Rules.{IsImage};
 ghost use Rattle.fx_machine.specs.Layout.{page_entry};
 ghost use Rattle.fx_machine.specs.Moves.{device_at};
 ghost use Rattle.fx_machine_whole.specs.Agree.{Agrees};
-ghost use Rattle.fx_machine_whole.specs.Reaching.{reach_of, unless_device};
+ghost use Rattle.fx_machine_whole.specs.Reaching.{reach_of, unless_device, IsPlain};
 
 use crate::pages::Pages;
 use fx_image::Image;
@@ -92,6 +92,17 @@ fn device_at(image: &Image, space: u8, entry: Option<Entry>, address: u64) -> Op
     match entry {
         Some(entry) if entry.flags.is_device() => Some((address / 4096 - 0xf100) as u16),
         _ => None,
+    }
+}
+
+/// Whether a page has memory.
+#[inline(always)]
+fn is_plain(entry: Option<Entry>) -> bool
+    ensures { IsTrue result → IsPlain entry }
+{
+    match entry {
+        Some(entry) => !entry.flags.is_device(),
+        None => false,
     }
 }
 
@@ -184,6 +195,30 @@ pub fn look(
     } else {
         reach_over_pages(pages, image, space, p, access, address, bytes)
     }
+}
+
+/// Whether an access of some bytes is permitted, is to memory, and lies in one page.
+#[inline(always)]
+pub fn is_memory(
+    pages: &mut Pages,
+    image: &Image,
+    space: u8,
+    p: Pkru,
+    access: Access,
+    address: u64,
+    bytes: u8,
+) -> bool
+    requires whole { IsImage image.now }
+    requires few { space < 16 }
+    requires agree { Agrees image.now pages.old }
+    ensures memory { IsTrue result → reach_of (page_entry image.now space) p access address bytes ≡ Reach.Memory }
+    ensures agree { Agrees image.now pages.new }
+{
+    if address % 4096 + u64::from(bytes) > 4096 {
+        return false;
+    }
+    let entry = pages.entry(image, space, address / 4096);
+    is_plain(entry) && permits(entry, p, access).is_ok()
 }
 
 /// What refuses an access of one byte, if anything does.

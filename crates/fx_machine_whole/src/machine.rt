@@ -1,6 +1,6 @@
 //! The machine.
 
-ghost use Rattle.std.specs.Prelude.{⊤, ◌≡◌, ◌<◌, ◌%◌, ◌↔◌, None, IsTrue, IsSome, IfOk, length, map, option_map, slice_set};
+ghost use Rattle.std.specs.Prelude.{⊤, ◌≡◌, ◌<◌, ◌%◌, ◌↔◌, false, None, IsTrue, IsSome, IfOk, length, map, option_map, slice_set};
 ghost use Rattle.std.proofs.Props.{props};
 ghost use Rattle.fx_device.specs.Bus.{bus_state, box_of, with_box};
 ghost use Rattle.fx_image.specs.Rules.{IsImage};
@@ -12,7 +12,7 @@ ghost use Rattle.fx_machine_whole.specs.Lines.{IsDecoded};
 ghost use Rattle.fx_machine_whole.specs.Memory.{memory_of, IsLaidOut};
 ghost use Rattle.fx_machine_whole.specs.Turns.{running_of, cpus_of, booted, Turned, Waits, Gave};
 
-use crate::act::{Act, finish, instruct};
+use crate::act::{Act, finish, instruct, instruct_whole};
 use crate::boot::{boot_cpus, copy_image};
 use crate::code::Code;
 use crate::memory::Memory;
@@ -100,10 +100,33 @@ impl Machine {
         )
     }
 
-    /// Executes one whole instruction of a vCPU, whose number is taken modulo the number of vCPUs. It takes
-    /// memory for an operation's place in the transcript alone.
-    #[inline]
-    pub fn turn(&mut self, v: u64) -> Turn
+    /// Does one instruction of a vCPU, if it was decoded beforehand and touches nothing but memory in one
+    /// page, and answers whether it is done. Where it isn't, nothing has changed.
+    #[inline(always)]
+    fn went(&mut self, c: u8) -> bool
+        requires there { c < length self.old.cpus.items }
+        requires few { c < 16 }
+        ensures done { IsTrue result → ActsBy (λ answers. move self.old.image c (cpus_of self.old.image self.old.cpus.items c) (world (memory_of self.old.image self.old.memory) answers)) (cpus_of self.old.image self.old.cpus.items c) (memory_of self.old.image self.old.memory) Act.Done (cpus_of self.old.image self.new.cpus.items c) (memory_of self.old.image self.new.memory) }
+        ensures registers { result ≡ false → self.new.cpus.items ≡ self.old.cpus.items }
+        ensures memory { result ≡ false → self.new.memory ≡ self.old.memory }
+        ensures cpus { self.new.cpus.items ≡ slice_set self.old.cpus.items c (cpus_of self.old.image self.new.cpus.items c) }
+        ensures image { self.new.image ≡ self.old.image }
+        ensures bus { self.new.bus ≡ self.old.bus }
+        ensures stop { self.new.stop ≡ self.old.stop }
+    {
+        instruct_whole(
+            &self.image,
+            &self.code,
+            &mut self.pages,
+            &mut self.memory,
+            c,
+            &mut self.cpus[usize::from(c)],
+        )
+    }
+
+    /// A turn, whatever its instruction does.
+    #[inline(never)]
+    fn turn_any(&mut self, v: u64) -> Turn
         requires { ⊤ }
         ensures { Turned (running_of self.old.image self.old.memory self.old.cpus.items (bus_state (λ d. (⟦<dyn Device as Device>⟧ d.vtable).meaning d.value) self.old.bus.boxes self.old.bus.transcript.items) self.old.stop) v result (running_of self.new.image self.new.memory self.new.cpus.items (bus_state (λ d. (⟦<dyn Device as Device>⟧ d.vtable).meaning d.value) self.new.bus.boxes self.new.bus.transcript.items) self.new.stop) }
     {
@@ -124,6 +147,26 @@ impl Machine {
                         self.stop = Some(stop);
                         Turn::Stopped(stop)
                     }
+                }
+            }
+        }
+    }
+
+    /// Executes one whole instruction of a vCPU, whose number is taken modulo the number of vCPUs. It takes
+    /// memory for an operation's place in the transcript alone.
+    #[inline]
+    pub fn turn(&mut self, v: u64) -> Turn
+        requires { ⊤ }
+        ensures { Turned (running_of self.old.image self.old.memory self.old.cpus.items (bus_state (λ d. (⟦<dyn Device as Device>⟧ d.vtable).meaning d.value) self.old.bus.boxes self.old.bus.transcript.items) self.old.stop) v result (running_of self.new.image self.new.memory self.new.cpus.items (bus_state (λ d. (⟦<dyn Device as Device>⟧ d.vtable).meaning d.value) self.new.bus.boxes self.new.bus.transcript.items) self.new.stop) }
+    {
+        match self.stop {
+            Some(stop) => Turn::Stopped(stop),
+            None => {
+                let c = self.vcpu(v);
+                if self.went(c) {
+                    Turn::Went
+                } else {
+                    self.turn_any(v)
                 }
             }
         }

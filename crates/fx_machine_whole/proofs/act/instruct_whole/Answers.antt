@@ -1,0 +1,11 @@
+use Rattle.fx_machine_whole.specs.Memory.{memory_of}
+use Rattle.fx_machine_whole.specs.declared.act.Act.TheVariants.{Done}
+use Rattle.fx_machine_whole.proofs.Performing.{acts_found}
+use Rattle.fx_machine_whole.proofs.act.instruct_whole.Goals as goal
+
+pub returns-in-Some-clause-done : goal.returns-in-Some-clause-done
+returns-in-Some-clause-done c =
+    let image = c.args.image.now in
+    λ t.
+    acts_found image c.args.vcpu c.args.r.now (memory_of image c.args.memory.now) c.in-Some.inst.now c.in-Some.length Done c.perform_whole.new.r (memory_of image c.perform_whole.new.memory)
+    (c.in-Some.ensures.value c.args.memory.now) (c.perform_whole.ensures.done t)
