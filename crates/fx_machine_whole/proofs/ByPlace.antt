@@ -58,8 +58,18 @@ IsWritten flags = flags ≡ 1
 abbrev IsRegister : ℕ → Type 0
 IsRegister flags = flags ≡ 5
 
-in_code : (image : Image) (space page : ℕ) → InRegion page IsCode (Unit {0}) (code_entry image space page)
-in_code image space page = by_test (nat_le 0x400 page && nat_lt ((page - 0x400) * 4096) (length image.code) && maps_code image space ((page - 0x400) * 4096)) page 2 0 IsCode (Unit {0}) refl (omega arith) (λ e. tt)
+abbrev InCode : Image → ℕ → Type 0
+InCode image page = (0x400 ≤ page) × ((page - 0x400) * 4096 < length image.code)
+
+in_code : (image : Image) (space page : ℕ) → InRegion page IsCode (InCode image page) (code_entry image space page)
+in_code image space page =
+    let maps = maps_code image space ((page - 0x400) * 4096) in
+    let inside = nat_lt ((page - 0x400) * 4096) (length image.code) in
+    by_test (nat_le 0x400 page && inside && maps) page 2 0 IsCode (InCode image page) refl (omega arith)
+    (λ e.
+    let (front, mapped_there) = both (nat_le 0x400 page && inside) maps e in
+    let (low, high) = both (nat_le 0x400 page) inside front in
+    (le_if 0x400 page low, lt_if ((page - 0x400) * 4096) (length image.code) high))
 
 in_literals : (image : Image) (page : ℕ) → InRegion page IsLiteral (Unit {0}) (literal_entry image page)
 in_literals image page = by_test (nat_le 0x600 page && nat_lt ((page - 0x600) * 4096) (length image.literals)) page 0 0 IsLiteral (Unit {0}) refl (omega arith) (λ e. tt)
@@ -202,7 +212,7 @@ module _ (page : ℕ) (P : Option Entry → Type 0) where
 
   pub by_place : (image : Image) (space : ℕ) → IsImage image
       → P None
-      → ((flags key : ℕ) → (flags ≡ 2) → key < 16 → P (mapped page flags key))
+      → ((flags key : ℕ) → (flags ≡ 2) → key < 16 → (0x400 ≤ page) × ((page - 0x400) * 4096 < length image.code) → P (mapped page flags key))
       → ((flags key : ℕ) → (flags ≡ 0) → key < 16 → P (mapped page flags key))
       → ((flags key : ℕ) → (flags ≡ 1) → key < 16 → (is_ept image ≡ true) × (0xe000 ≤ page) × (page < 0xe100) → P (mapped page flags key))
       → ((flags key : ℕ) → (flags ≡ 0) ⊎ (flags ≡ 1) → key < 16 → page ≡ 0xf000 → P (mapped page flags key))
@@ -212,7 +222,7 @@ module _ (page : ℕ) (P : Option Entry → Type 0) where
       → P (page_entry image space page)
   unfolding page_entry
   by_place image space h none code literal mail thread device section stack =
-      step (code_entry image space page) _ IsCode (Unit {0}) (in_code image space page) (λ flags key ok small w. code flags key ok small)
+      step (code_entry image space page) _ IsCode (InCode image page) (in_code image space page) code
       (step (literal_entry image page) _ IsLiteral (Unit {0}) (in_literals image page) (λ flags key ok small w. literal flags key ok small)
       (step (mailbox_entry image space page) _ IsWritten (InMail image page) (in_mail image space page h) mail
       (step (thread_entry image space page) _ Plain (page ≡ 0xf000) (in_thread image space page) thread
@@ -223,7 +233,7 @@ module _ (page : ℕ) (P : Option Entry → Type 0) where
 -- each entry's key is a protection key
 pub entry_keyed : (image : Image) (space page : ℕ) → IsImage image → HasKey (page_entry image space page)
 entry_keyed image space page h =
-    by_place page HasKey image space h tt (λ flags key ok s. s) (λ flags key ok s. s) (λ flags key ok s w. s) (λ flags key ok s w. s) (λ flags key ok s w. s) (λ flags key ok s w. s) (λ flags key ok s w. s)
+    by_place page HasKey image space h tt (λ flags key ok s w. s) (λ flags key ok s. s) (λ flags key ok s w. s) (λ flags key ok s w. s) (λ flags key ok s w. s) (λ flags key ok s w. s) (λ flags key ok s w. s)
 
 -- a device's page is one of sixteen
 abbrev DeviceAt : ℕ → Option Entry → Type 0
@@ -242,7 +252,7 @@ is_plain page key flags (inr ok) = subst (λ f. DeviceAt page (mapped page f key
 pub device_pages : (image : Image) (space page : ℕ) → IsImage image → (e : Entry) → page_entry image space page ≡ Some e → is_device e.flags ≡ true → (0xf100 ≤ page) × (page < 0xf110)
 device_pages image space page h =
     by_place page (DeviceAt page) image space h (λ e is. cc)
-    (λ flags key ok s. subst (λ f. DeviceAt page (mapped page f key)) (sym ok) (not_device page 2 key refl))
+    (λ flags key ok s w. subst (λ f. DeviceAt page (mapped page f key)) (sym ok) (not_device page 2 key refl))
     (λ flags key ok s. is_plain page key flags (inl ok))
     (λ flags key ok s w. is_plain page key flags (inr ok))
     (λ flags key ok s w. is_plain page key flags ok)

@@ -64,7 +64,7 @@ pub entry_holds : (image : Image) (space : ℕ) (memory : Memory) (a : ℕ) (pkr
 entry_holds image space memory a pkru form h laid =
     by_place (page_of a) (Holds memory a pkru form) image space h
     (λ free plain. cc)
-    (λ flags key ok s. subst (λ f. Holds memory a pkru form (mapped (page_of a) f key)) (sym ok) (λ free plain. cc))
+    (λ flags key ok s w. subst (λ f. Holds memory a pkru form (mapped (page_of a) f key)) (sym ok) (λ free plain. cc))
     (λ flags key ok s. subst (λ f. Holds memory a pkru form (mapped (page_of a) f key)) (sym ok) (λ free plain. cc))
     (λ flags key ok s w free plain.
     let low = w.1 in

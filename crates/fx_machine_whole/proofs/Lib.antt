@@ -8,3 +8,4 @@ pub mod Performing
 pub mod Turning
 pub mod Ends
 pub mod Lines
+pub mod Frames

@@ -11,7 +11,6 @@ use Rattle.fx_cpu.specs.Registers.{past}
 use Rattle.fx_cpu.specs.Memory.{stored, word_at}
 use Rattle.fx_cpu.specs.Does.{need, finish}
 use Rattle.fx_cpu.specs.declared.registers.Regs.{Regs}
-use Rattle.fx_cpu.specs.declared.need.Need.{Need}
 use Rattle.fx_cpu.specs.declared.need.Need.TheVariants as needs
 use Rattle.fx_cpu.specs.declared.trap.Trap.{Trap}
 use Rattle.fx_image.specs.declared.forms.Image.{Image}
@@ -22,7 +21,7 @@ use Rattle.fx_machine.specs.declared.fetched.Fetched.TheVariants.{Found, Refused
 use Rattle.fx_machine.specs.declared.stop.Stop.TheVariants.{Invalid}
 use Rattle.fx_machine.proofs.Executing.{quiet, reads, writes}
 use Rattle.fx_machine.proofs.Fetching.{move_is}
-use Rattle.fx_machine_whole.specs.Acting.{world, ActsBy, Accesses}
+use Rattle.fx_machine_whole.specs.Acting.{world, ActsBy}
 use Rattle.fx_machine_whole.specs.Reaching.{reach_by, reach_of}
 use Rattle.fx_machine_whole.specs.declared.act.Act.{Act}
 use Rattle.fx_machine_whole.specs.declared.act.Act.TheVariants.{Done, Operation, Halts}
@@ -106,17 +105,6 @@ module _ (image : Image) (vcpu : ℕ) (i : Inst) (len : ℕ) (r : Regs) (memory 
         refl,
         refl,
       )
-
-  moved : (v : ℕ) (m : ℕ → ℕ) → ActsBy go r memory Done (finish i (past r len) v) m → (value : ℕ) (new : ℕ → ℕ) → value ≡ v → new ≡ m → ActsBy go r memory Done (finish i (past r len) value) new
-  moved v m h value new e same =
-      λ answers. h answers ∙ ap (λ x. Goes [] (finish i (past r len) x, world m answers)) (sym e) ∙ ap (λ x. Goes [] (finish i (past r len) value, world x answers)) (sym same)
-
-  -- where the access was made, the instruction is done
-  pub acts_accessed : (n : Need) (value : ℕ) (new : ℕ → ℕ) → need i (past r len) ≡ n → Accesses image vcpu r.pkru memory n value new → ActsBy go r memory Done (finish i (past r len) value) new
-  acts_accessed needs.Quiet value new e h = moved 0 memory (acts_quiet e) value new h.0 h.1
-  acts_accessed (needs.Reads w a) value new e h = moved (word_at memory w a) memory (acts_read w a e h.0) value new h.1 h.2
-  acts_accessed (needs.Writes w a v) value new e h = moved 0 new (acts_store w a v new e h.0 h.2) value new h.1 refl
-  acts_accessed (needs.Stops trap) value new e h = absurd h
 
 -- ---- the instruction at RIP
 

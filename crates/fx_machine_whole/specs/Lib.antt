@@ -5,3 +5,4 @@ pub mod Acting
 pub mod Turns
 pub mod Operations
 pub mod Lines
+pub mod Frames
