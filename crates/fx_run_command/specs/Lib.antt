@@ -1,0 +1,4 @@
+pub mod Causes
+pub mod Comes
+pub mod Lines
+pub mod Reports
