@@ -1,5 +1,5 @@
 -- What a command came to, from its stages.
-use Rattle.std.proofs.Common.{◌≡◌, ◌≢◌, ℕ, List, [], ◌∷◌, Option, Some, None, All, ◌<◌, ◌⊎◌, inl, inr, ℤ, pos, sym, ◌∙◌, refl, ap, subst, arith, codes}
+use Rattle.std.proofs.Common.{◌≡◌, ℕ, List, [], ◌∷◌, Option, ◌<◌, inl, inr, sym, ◌∙◌, refl, subst, arith, codes}
 use Rattle.std.proofs.lemmas.List.Elements.{All-from_recursion}
 use Rattle.fx_base.specs.Told.{Told}
 use Rattle.fx_base.specs.Files.{Held}
@@ -7,10 +7,11 @@ use Rattle.fx_image.specs.declared.forms.Image.{Image}
 use Rattle.fx_run_core.proofs.Puts.{told_same}
 use Rattle.flexos.specs.declared.came.Came.{Came}
 use Rattle.flexos.specs.declared.came.Came.TheVariants.{Exited, Usage, Refused, FileFault, WriteFault, OutOfMemory, Spent}
-use Rattle.flexos.specs.Words.{IsExec, IsUsage}
+use Rattle.flexos.specs.Words.{IsExec}
 use Rattle.fx_run_core.specs.Ran.{Gained, turns_of}
 use Rattle.flexos.specs.Lines.{status_of, line_of}
-use Rattle.flexos.specs.Reports.{Ended, Reports}
+use Rattle.fx_run_command.specs.Reports.{Ended}
+use Rattle.flexos.specs.Reports.{Reports}
 use Rattle.flexos.specs.Plays.{budget, IsOf, Plays}
 use Rattle.flexos.specs.Comes.{Builds, Writes, Unbuilt, TookNothing, Comes, Done}
 

@@ -1,6 +1,6 @@
 -- What runs of an image of constants put out.
-use Rattle.std.proofs.Common.{◌≡◌, ℕ, ℤ, pos, ◌%◌, ◌^◌, ◌<◌, ◌≤◌, List, [], ◌∷◌, ◌++◌, length, take, drop, map, All, Option, Some, None, Bool, true, refl, ap, sym, ◌∙◌, subst, arith, append_assoc}
-use Rattle.std.specs.List.{flat_map, AllByRecursion}
+use Rattle.std.proofs.Common.{◌≡◌, ℕ, pos, ◌%◌, ◌^◌, ◌<◌, List, [], ◌∷◌, ◌++◌, length, take, drop, map, All, Option, Some, refl, ap, sym, ◌∙◌, subst, arith, append_assoc}
+use Rattle.std.specs.List.{AllByRecursion}
 use Rattle.std.proofs.lemmas.List.Elements.{recursion_from_All, All-from_recursion}
 use Rattle.std.proofs.lemmas.List.{take-append-drop}
 use Rattle.std.proofs.Math.Seq.{take-append_seam, take-length}
@@ -15,9 +15,8 @@ use Rattle.fx_image.specs.declared.forms.Image.{Image}
 use Rattle.fx_early_image.specs.Source.{console_store}
 use Rattle.fx_early_image.specs.Layout.{early_image}
 use Rattle.fx_early_image.specs.Faithful.{RunsWriteConstants}
-use Rattle.fx_machine.specs.Effects.{all_ones}
 use Rattle.fx_machine.specs.Turns.{Running, booted}
-use Rattle.fx_run_core.specs.Ran.{ones, AreStores, LoadsNothing, output_of, outputs, run_of, Gained, GainedFront}
+use Rattle.fx_run_core.specs.Ran.{ones, AreStores, LoadsNothing, outputs, run_of, Gained, GainedFront}
 use Rattle.fx_run_core.proofs.Steps.{of_each, outputs-append}
 use Rattle.fx_run_core.proofs.Puts.{told_map}
 use Rattle.flexos.specs.Plays.{IsOf}

@@ -1,5 +1,5 @@
 -- What the files hold over the stages of a command.
-use Rattle.std.proofs.Common.{◌≡◌, ◌≢◌, ℕ, List, Option, Some, None, Result, Ok, Err, IfOk, sym, ◌∙◌, Vec, Global}
+use Rattle.std.proofs.Common.{◌≡◌, ℕ, List, Option, Some, None, Result, Ok, Err, IfOk, sym, ◌∙◌}
 use Rattle.fx_base.specs.Told.{Told}
 use Rattle.fx_base.specs.Files.{Held, SameFiles, SameElsewhere}
 use Rattle.fx_image.specs.Rules.{IsImage}

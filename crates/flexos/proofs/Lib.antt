@@ -1,3 +1,4 @@
 pub mod Constants
 pub mod Holding
 pub mod Coming
+pub mod Running

@@ -1,9 +1,8 @@
 -- What a command came to, and why.
-use Rattle.std.specs.Prelude.{◌≡◌, ◌≢◌, ℕ, ℤ, pos, ◌≤◌, List, ◌++◌, take, map, Option, None, Some}
+use Rattle.std.specs.Prelude.{◌≡◌, ℕ, pos, List, Option, None, Some}
 use Rattle.fx_base.specs.Faults.{Rose}
 use Rattle.fx_base.specs.Told.{Told}
 use Rattle.fx_base.specs.Files.{Held, SameFiles, SameElsewhere}
-use Rattle.fx_early_source.specs.Grammar.{IsProgram}
 use Rattle.fx_early_image.specs.Layout.{early_image}
 use Rattle.fx_early_image.specs.Faithful.{EarlyFaithful}
 use Rattle.fx_image.specs.Rules.{IsImage}
@@ -17,7 +16,7 @@ use Rattle.flexos.specs.declared.came.Which.TheVariants as which
 use Rattle.flexos.specs.Plays.{budget}
 use Rattle.flexos.specs.Words.{IsExec}
 use Rattle.flexos.specs.Lines.{line_of}
-use Rattle.flexos.specs.Causes.{HasContent, HasProgram, ReadingFault, WritingFault, ConfigCause, SourceCause, early_document}
+use Rattle.flexos.specs.Causes.{HasContent, HasProgram, WritingFault, ConfigCause, SourceCause, early_document}
 
 -- The image is that of the source and the configuration read: it meets the field rules, and it is faithful
 -- to the source's program.

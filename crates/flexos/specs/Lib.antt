@@ -4,3 +4,4 @@ pub mod Causes
 pub mod Reports
 pub mod Plays
 pub mod Comes
+pub mod Runs

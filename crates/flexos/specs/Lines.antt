@@ -1,5 +1,5 @@
 -- What a command came to: its status, and its line on the error stream.
-use Rattle.std.specs.Prelude.{ℕ, ℤ, List, [], ◌∷◌, ◌++◌, codes}
+use Rattle.std.specs.Prelude.{ℕ, List, [], ◌∷◌, ◌++◌, codes}
 use Rattle.std.specs.Fmt.{decimal, signed_decimal}
 use Rattle.fx_base.specs.declared.files.FileError.{FileError}
 use Rattle.fx_base.specs.declared.files.FileError.TheVariants as errors

@@ -1,16 +1,28 @@
 -- The words of a command.
-use Rattle.std.specs.Prelude.{◌≡◌, ℕ, ◌==◌, Bool, false, not, IsTrue, List, [], ◌∷◌, codes}
-
--- A file's name is a word of at least one byte that doesn't begin with a dash.
-abbrev pub is_file_name : List ℕ → Bool
-is_file_name [] = false
-is_file_name (first ∷ rest) = not (first == 45)
+use Rattle.std.specs.Prelude.{◌≡◌, ℕ, IsTrue, List, [], ◌∷◌, None, Some, codes}
+use Rattle.fx_run_words.specs.Words.{RunGiven, is_file_name, run_words}
+use Rattle.fx_run_words.specs.Views.{run_given}
+use Rattle.flexos.specs.declared.command.Command.{Command}
+use Rattle.flexos.specs.declared.command.Command.TheVariants.{Exec, Run}
 
 -- The words are `exec CONF IMAGE`.
 abbrev pub IsExec : List (List ℕ) → List ℕ → List ℕ → Type 0
 IsExec words config image =
     (words ≡ codes "exec" ∷ config ∷ image ∷ []) × IsTrue (is_file_name config) × IsTrue (is_file_name image)
 
+-- They aren't.
+abbrev pub IsNoExec : List (List ℕ) → Type 0
+IsNoExec words = (config image : List ℕ) → IsExec words config image → ⊥
+
+-- They are `run IMAGE` with these options.
+abbrev pub IsRun : List (List ℕ) → RunGiven → Type 0
+IsRun words given = run_words words ≡ Some given
+
 -- They are no command.
 abbrev pub IsUsage : List (List ℕ) → Type 0
-IsUsage words = (config image : List ℕ) → IsExec words config image → ⊥
+IsUsage words = IsNoExec words × (run_words words ≡ None)
+
+-- They are this command.
+abbrev pub IsCommand : List (List ℕ) → Command → Type 0
+IsCommand words (Exec exec) = IsExec words exec.config.now exec.image.now
+IsCommand words (Run run) = IsNoExec words × IsRun words (run_given run)

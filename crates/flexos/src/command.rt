@@ -1,10 +1,11 @@
 //! The words of a command.
 
 ghost use Rattle.std.specs.Prelude.{◌≡◌, map, MatchOption, string_bytes};
-ghost use Rattle.flexos.specs.Words.{IsExec, IsUsage, is_file_name};
+ghost use Rattle.flexos.specs.Words.{IsExec, IsNoExec, IsUsage, IsCommand};
 ghost use Rattle.flexos.specs.Lines.{name_of};
 
 use crate::came::Which;
+use fx_run_words::words::{RunWords, is_file_name};
 
 /// The name of the source.
 pub const SOURCE: &str = "a.c";
@@ -16,17 +17,16 @@ pub struct Exec<'a> {
     pub image: &'a str,
 }
 
-/// Whether a word may name a file: it has a byte, and doesn't begin with a dash.
-fn is_file_name(word: &str) -> bool
-    ensures { result ≡ is_file_name word.now }
-{
-    let bytes = word.as_bytes();
-    !bytes.is_empty() && bytes[0] != b'-'
+/// A command.
+#[derive(Clone, Copy, Debug)]
+pub enum Command<'a> {
+    Exec(Exec<'a>),
+    Run(RunWords<'a>),
 }
 
-/// The command that the words are.
-pub fn exec_of(words: &[String]) -> Option<Exec<'_>>
-    ensures { MatchOption result (IsUsage (map string_bytes words.now)) (λ exec. IsExec (map string_bytes words.now) exec.config.now exec.image.now) }
+/// The command `exec` that the words are.
+fn exec_of(words: &[String]) -> Option<Exec<'_>>
+    ensures { MatchOption result (IsNoExec (map string_bytes words.now)) (λ exec. IsExec (map string_bytes words.now) exec.config.now exec.image.now) }
 {
     if words.len() != 3 {
         return None;
@@ -38,6 +38,19 @@ pub fn exec_of(words: &[String]) -> Option<Exec<'_>>
         Some(Exec { config, image })
     } else {
         None
+    }
+}
+
+/// The command that the words are.
+pub fn command_of(words: &[String]) -> Option<Command<'_>>
+    ensures { MatchOption result (IsUsage (map string_bytes words.now)) (IsCommand (map string_bytes words.now)) }
+{
+    match exec_of(words) {
+        Some(exec) => Some(Command::Exec(exec)),
+        None => match RunWords::of(words) {
+            Some(run) => Some(Command::Run(run)),
+            None => None,
+        },
     }
 }
 

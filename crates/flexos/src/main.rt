@@ -13,6 +13,9 @@ mod tests;
 mod top;
 
 use adapters::{RealFiles, StdSink, StdSource};
+use fx_base::Sink;
+use fx_device::{BlockStore, Counter, Device};
+use fx_run_command::report::report_out_of_memory;
 use std::alloc::AllocError;
 use std::env;
 use std::io::ErrorKind;
@@ -30,19 +33,33 @@ fn words(rt: &HostRuntime) -> Result<Vec<String>, AllocError> {
     }
 }
 
-fn main(rt: HostRuntime) -> ExitCode {
-    let mut err = StdSink::new(rt.stderr());
-    let Ok(words) = words(&rt) else {
-        return ExitCode::from(report::report_out_of_memory(&mut err));
-    };
-    let status = top::flexos(
-        rt.alloc(),
+/// The words of the device that keeps blocks.
+const STORE_WORDS: u32 = 65_536;
+
+/// Does what the program's words say, with a store of blocks as device 1 and a counter from 0 as device 2.
+fn perform<E: Sink>(rt: &HostRuntime, err: &mut E) -> Result<u8, AllocError> {
+    let alloc = rt.alloc();
+    let words = words(rt)?;
+    let store = BlockStore::new(alloc, STORE_WORDS)?;
+    let mut devices: Vec<Box<dyn Device>> = Vec::new(alloc);
+    devices.push(Box::new(alloc, store)?)?;
+    devices.push(Box::new(alloc, Counter::new(0))?)?;
+    Ok(top::flexos(
+        alloc,
         &words,
-        &mut RealFiles::new(&rt),
+        &mut RealFiles::new(rt),
         &mut StdSource::new(rt.stdin()),
         &mut StdSink::new(rt.stdout()),
-        &mut err,
-        Vec::new(rt.alloc()),
-    );
+        err,
+        devices,
+    ))
+}
+
+fn main(rt: HostRuntime) -> ExitCode {
+    let mut err = StdSink::new(rt.stderr());
+    let status = match perform(&rt, &mut err) {
+        Ok(status) => status,
+        Err(_) => report_out_of_memory(&mut err),
+    };
     ExitCode::from(status)
 }

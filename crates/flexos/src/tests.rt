@@ -24,6 +24,29 @@ fn words(alloc: Global, text: &str) -> Result<Vec<String>, AllocError> {
     Ok(words)
 }
 
+/// Runs a command over files, with an output of this capacity.
+fn over(alloc: Global, text: &str, mut files: MemFiles, capacity: u64) -> Result<Left, AllocError> {
+    let words = words(alloc, text)?;
+    let mut input = MemSource::new(Vec::new(alloc), Vec::new(alloc));
+    let mut out = MemSink::new(alloc, capacity, 3, Vec::new(alloc))?;
+    let mut err = MemSink::new(alloc, 100, 100, Vec::new(alloc))?;
+    let status = flexos(
+        alloc,
+        &words,
+        &mut files,
+        &mut input,
+        &mut out,
+        &mut err,
+        Vec::new(alloc),
+    );
+    Ok(Left {
+        status,
+        files,
+        out,
+        err,
+    })
+}
+
 /// Runs a command over these files, whose calls of one number fail, with an output of this capacity.
 fn command(
     alloc: Global,
@@ -36,25 +59,7 @@ fn command(
     for (name, bytes) in files {
         held.add(name, bytes)?;
     }
-    let words = words(alloc, text)?;
-    let mut input = MemSource::new(Vec::new(alloc), Vec::new(alloc));
-    let mut out = MemSink::new(alloc, capacity, 3, Vec::new(alloc))?;
-    let mut err = MemSink::new(alloc, 100, 100, Vec::new(alloc))?;
-    let status = flexos(
-        alloc,
-        &words,
-        &mut held,
-        &mut input,
-        &mut out,
-        &mut err,
-        Vec::new(alloc),
-    );
-    Ok(Left {
-        status,
-        files: held,
-        out,
-        err,
-    })
+    over(alloc, text, held, capacity)
 }
 
 const EXEC: &str = "exec conf.toml out.img";
@@ -84,6 +89,26 @@ fn programs_run_and_print(rt: HostRuntime) -> Result<(), Fail> {
         assert_eq!(rt; left.err.bytes(), line.as_bytes(), "{source}");
         let image = left.files.get("out.img").ok_or("no image")?;
         assert!(rt; image.starts_with(b"FXIM"), "{source}");
+    }
+    Ok(())
+}
+
+#[test]
+fn images_are_run_again(rt: HostRuntime) -> Result<(), Fail> {
+    let alloc = rt.alloc();
+    let Left { mut files, .. } = exec(alloc, b"void main() { __putc(72); }")?;
+    let cases: [(&str, u8, &[u8], &str); 4] = [
+        ("run out.img", 0, b"H", "exit 0 in 9 turns\n"),
+        ("run out.img --steps 9", 0, b"H", "exit 0 in 9 turns\n"),
+        ("run out.img --steps 8", 8, b"H", "steps spent: 8\n"),
+        ("run a.c", 3, b"", "refused: image Magic\n"),
+    ];
+    for (text, status, output, line) in cases {
+        let left = over(alloc, text, files, 2000)?;
+        assert_eq!(rt; left.status, status, "{text}");
+        assert_eq!(rt; left.out.bytes(), output, "{text}");
+        assert_eq!(rt; left.err.bytes(), line.as_bytes(), "{text}");
+        files = left.files;
     }
     Ok(())
 }

@@ -1,4 +1,4 @@
-use Rattle.std.proofs.Common.{◌≡◌, ℕ, List, [], ◌∷◌, length, get_or, map, String, Global, string_bytes, ap, sym, ◌∙◌, refl, arith, codes, Bool, true}
+use Rattle.std.proofs.Common.{◌≡◌, ℕ, List, [], ◌∷◌, length, get_or, map, String, Global, string_bytes, sym, ◌∙◌, arith, codes}
 use Rattle.std.proofs.lemmas.Slice.Eq.{bytes_eq-Decides}
 use Rattle.flexos.proofs.command.exec_of.Goals as goal
 

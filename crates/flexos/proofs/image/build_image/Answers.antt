@@ -1,4 +1,4 @@
-use Rattle.std.proofs.Common.{subst, sym, ◌≡◌, List, ℕ}
+use Rattle.std.proofs.Common.{subst, sym}
 use Rattle.flexos.specs.Causes.{HasProgram}
 use Rattle.flexos.proofs.Holding.{same_twice, program_before, built, writes}
 use Rattle.flexos.proofs.image.build_image.Goals as goal

@@ -1,7 +1,7 @@
-use Rattle.std.proofs.Common.{◌≡◌, ℕ, List, Option, Some, Result, Ok, Err, IfErr, Vec, Global, subst, sym}
+use Rattle.std.proofs.Common.{ℕ, List, Option, Result, Ok, Err, IfErr, Vec, Global, subst, sym}
 use Rattle.fx_base.specs.Files.{Held}
 use Rattle.flexos.specs.declared.came.Came.{Came}
-use Rattle.flexos.specs.declared.came.Came.TheVariants.{Refused, FileFault, OutOfMemory}
+use Rattle.flexos.specs.declared.came.Came.TheVariants.{Refused, OutOfMemory}
 use Rattle.flexos.specs.declared.came.Early.TheVariants as early
 use Rattle.flexos.specs.Lines.{source_name}
 use Rattle.flexos.specs.Causes.{HasContent, SourceCause, IsSourceRefused}

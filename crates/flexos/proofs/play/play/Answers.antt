@@ -1,7 +1,7 @@
-use Rattle.std.proofs.Common.{◌≡◌, ℕ, List, subst, refl}
+use Rattle.std.proofs.Common.{subst, refl}
 use Rattle.fx_run_core.specs.declared.Outcome.{Outcome}
 use Rattle.fx_run_core.specs.Ran.{RanTo}
-use Rattle.flexos.specs.Plays.{budget, IsOf}
+use Rattle.flexos.specs.Plays.{budget}
 use Rattle.flexos.proofs.Constants.{loads_nothing, its_stop, all_of_run, front_of_run, front_of_all}
 use Rattle.flexos.proofs.play.play.Goals as goal
 

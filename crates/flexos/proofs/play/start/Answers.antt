@@ -1,4 +1,4 @@
-use Rattle.std.proofs.Common.{◌≡◌, ℕ, List, subst, sym, ap}
+use Rattle.std.proofs.Common.{◌≡◌, subst, sym, ap}
 use Rattle.fx_image.specs.declared.forms.Image.{Image}
 use Rattle.fx_machine.specs.Turns.{Running}
 use Rattle.fx_machine.specs.Machines.{running}

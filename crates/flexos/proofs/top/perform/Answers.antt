@@ -1,4 +1,3 @@
-use Rattle.std.proofs.Common.{◌≡◌, ℕ, List}
 use Rattle.flexos.proofs.Coming.{comes_built, comes_unbuilt, is_of}
 use Rattle.flexos.proofs.top.perform.Goals as goal
 

@@ -1,0 +1,22 @@
+-- A run that ended well.
+use Rattle.std.specs.Prelude.{ℕ, ℤ, List, Option}
+use Rattle.fx_base.specs.Told.{Told}
+use Rattle.fx_device.specs.Rules.{Meaning}
+use Rattle.fx_image.specs.declared.forms.Image.{Image}
+use Rattle.fx_run_whole.specs.Ran.{Gained}
+use Rattle.fx_verdicts.specs.Lines.{line_of}
+use Rattle.fx_verdicts.specs.declared.verdict.Verdict.TheVariants.{Exited}
+use Rattle.fx_run_words.specs.Words.{RunGiven}
+use Rattle.fx_run_command.specs.Comes.{Streams, Ran}
+use Rattle.flexos.specs.Words.{IsRun}
+
+-- The command `run` that ended with status 0: the run of the image read ended by Exit, and the line tells its
+-- value and its turns.
+pub record DoneRun (words : List (List ℕ)) (boxes : List (Option Meaning)) (before after : Streams) (told printed : Option (List ℕ)) : Type 0 where
+  pub given : RunGiven
+  pub run : IsRun words given
+  pub image : Image
+  pub value : ℤ
+  pub turns : ℕ
+  pub ran : Ran given boxes before after image (Exited value turns)
+  pub line : Told (Gained (line_of image (Exited value turns))) told printed
