@@ -1,6 +1,6 @@
 //! Memory.
 
-ghost use Rattle.std.specs.Prelude.{◌-ℤ◌, ◌≤ℤ◌, ◌-◌, ◌≡◌, ◌+◌, ◌<◌, ◌≤◌, ◌^◌, ◌++◌, ◌∷◌, [], length, OnOk, OnErr, MatchResult, pos, slice_get, option_copied};
+ghost use Rattle.std.specs.Prelude.{◌-ℤ◌, ◌≤ℤ◌, ◌-◌, ◌≡◌, ◌+◌, ◌<◌, ◌≤◌, ◌^◌, ◌++◌, ◌∷◌, [], length, OnOk, OnErr, MatchResult, pos, slice_get, option_copied, take};
 ghost use Rattle.fx_c_ast.specs.CheckedTrees.{ty_tree};
 ghost use Rattle.fx_c_blocks.specs.Blocks.{reached, byte_read, loaded, writable, written, cells_of, without, moved, is_comparable, offset_in, dead_at};
 
@@ -51,6 +51,13 @@ impl Memory {
     {
         self.objects.push(object)?;
         Ok(())
+    }
+
+    /// Takes back the objects from a number on, as if they had not been added.
+    pub fn truncate(&mut self, n: usize)
+        ensures { self.new ≡ take n self.old }
+    {
+        self.objects.truncate(n);
     }
 
     fn at(&self, number: u32) -> Option<&Object>
