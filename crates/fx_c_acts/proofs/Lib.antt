@@ -1,0 +1,4 @@
+pub mod Cells
+pub mod Callers
+pub mod Rounds
+pub mod Woken
