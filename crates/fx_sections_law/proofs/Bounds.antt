@@ -1,5 +1,5 @@
 -- How far sections and literals reach.
-use Rattle.std.proofs.Common.{◌≡◌, ℕ, zero, suc, ◌+◌, ◌-◌, ◌*◌, ◌<◌, ◌≤◌, Bool, true, false, ◌&&◌, nat_lt, List, [], ◌∷◌, length, get_or, Result, Ok, Err, if◌then◌else◌, refl, sym, ap, arith, lit≤}
+use Rattle.std.proofs.Common.{◌≡◌, ℕ, zero, suc, ◌+◌, ◌*◌, ◌<◌, ◌≤◌, Bool, true, false, ◌&&◌, nat_lt, List, [], ◌∷◌, length, get_or, Result, Ok, Err, if◌then◌else◌, refl, sym, ap, arith, lit≤}
 use Rattle.std.proofs.lemmas.Bool.{ltb-false}
 use Rattle.fx_config.specs.declared.configuration.Config.{Config}
 use Rattle.fx_config.specs.declared.configuration.Mechanism.{Mechanism}
@@ -83,7 +83,7 @@ ends_grow r (x ∷ xs) le =
     omega (arith, ends_grow (with_object r x) xs ordered)
 
 -- an object of a region begins behind its start and ends before its end
-start_within : (r : Room) (xs : List ℕ) (i : ℕ) → i < length (starts r xs) → (r.next ≤ get_or (starts r xs) i 0) × (get_or (starts r xs) i 0 + get_or xs i 0 ≤ (with_objects r xs).end)
+pub start_within : (r : Room) (xs : List ℕ) (i : ℕ) → i < length (starts r xs) → (r.next ≤ get_or (starts r xs) i 0) × (get_or (starts r xs) i 0 + get_or xs i 0 ≤ (with_objects r xs).end)
 start_within r [] i less = absurd (omega arith)
 start_within r (x ∷ xs) zero less =
     let ordered : (with_object r x).end ≤ (with_object r x).next = omega (arith, object_behind r x) in

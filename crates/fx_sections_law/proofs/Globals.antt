@@ -1,13 +1,12 @@
 -- Where globals lie in their sections.
-use Rattle.std.proofs.Common.{◌≡◌, ℕ, zero, suc, ◌+◌, ◌*◌, ◌/◌, ◌%◌, ◌<◌, ◌≤◌, Bool, true, false, not, ◌&&◌, ◌||◌, nat_eq, nat_lt, cond, if◌then◌else◌, List, [], ◌∷◌, ◌++◌, length, map, take, drop, get_or, max, Option, Some, None, unwrap_or, position, refl, sym, ap, subst, ◌∙◌, append_assoc, true≢false, ◌-◌, arith, lit≤}
-use Rattle.std.proofs.lemmas.Bool.{lt-ltb, or_parts, and_parts, eqb-true}
+use Rattle.std.proofs.Common.{◌≡◌, ℕ, zero, suc, ◌+◌, ◌*◌, ◌/◌, ◌%◌, ◌<◌, ◌≤◌, Bool, true, false, not, ◌||◌, nat_eq, nat_lt, cond, if◌then◌else◌, List, [], ◌∷◌, ◌++◌, length, take, drop, get_or, Some, None, unwrap_or, refl, sym, ap, subst, ◌∙◌, append_assoc, true≢false, ◌-◌, arith, lit≤}
+use Rattle.std.proofs.lemmas.Bool.{lt-ltb, and_parts, eqb-true}
 use Rattle.std.proofs.lemmas.List.{take_more, take-take, take-append-drop}
 use Rattle.std.specs.List.{list_any, position_or_len}
 use Rattle.fx_config.specs.declared.configuration.Config.{Config}
 use Rattle.fx_c_ast.specs.declared.checked.TGlobal.{TGlobal}
 use Rattle.fx_c_ast.specs.declared.checked.TProgram.{TProgram}
 use Rattle.fx_c_ast.specs.CheckedTrees.{TyTree, struct_types}
-use Rattle.fx_c_ast.specs.Layout.{round_up}
 use Rattle.fx_c_ast.proofs.Layouts.{round_from}
 use Rattle.fx_grants.specs.declared.grants.Pair.{Pair}
 use Rattle.fx_grants.specs.declared.grants.Grants.{Grants}
@@ -16,7 +15,7 @@ use Rattle.fx_sections.specs.declared.regions.Room.{Room}
 use Rattle.fx_sections.specs.declared.regions.GlobalSize.{GlobalSize}
 use Rattle.fx_sections.specs.Pairs.{same_pair, section_of}
 use Rattle.fx_sections.specs.Regions.{empty, with_object, with_objects, page_count, sizes_in}
-use Rattle.fx_sections.specs.Placement.{IsPlaceable, sized, opening, room_of, rooms_from, offsets, addresses, page_of, program_pairs, program_objects, program_rooms, program_sections, program_addresses}
+use Rattle.fx_sections.specs.Placement.{IsPlaceable, sized, opening, room_of, offsets, addresses, page_of, program_pairs, program_objects, program_rooms, program_sections, program_addresses}
 use Rattle.fx_sections.proofs.Rooms.{with_objects-append, sizes_in-append, room_of-own, get_or-rooms_from, length-rooms_from}
 use Rattle.fx_sections.proofs.Offsets.{length-offsets}
 use Rattle.fx_sections_law.proofs.Differ.{pair_is_among}

@@ -2,3 +2,4 @@ pub mod Differ
 pub mod Sections
 pub mod Globals
 pub mod Bounds
+pub mod Granules

@@ -1,5 +1,5 @@
 -- Sections one behind the other.
-use Rattle.std.proofs.Common.{◌≡◌, ℕ, zero, suc, ◌+◌, ◌<◌, ◌≤◌, List, [], ◌∷◌, length, map, get_or, max, refl, sym, ap, ◌∙◌, arith}
+use Rattle.std.proofs.Common.{◌≡◌, ℕ, zero, suc, ◌+◌, ◌<◌, ◌≤◌, List, [], ◌∷◌, length, get_or, refl, ap, arith}
 use Rattle.fx_config.specs.declared.configuration.Mechanism.{Mechanism}
 use Rattle.fx_grants.specs.declared.grants.Pair.{Pair}
 use Rattle.fx_sections.specs.declared.placement.PlacedSection.{PlacedSection}

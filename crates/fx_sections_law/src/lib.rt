@@ -1,6 +1,7 @@
 //! What a placement means: which pages and addresses belong to whom.
 #![tactic(auto)]
 
+ghost use Rattle.fx_sections_law.specs.Granules.{GranulesAreUnshared};
 ghost use Rattle.fx_sections_law.specs.Laws.{PairsDiffer, SectionsAreApart, GlobalsAreInTheirSections, GlobalsAreApart, GlobalsStandBehindTheRuntime, RegionsAreApart};
 
 /// Every section is of one pair of readers and writers, and no two are of the same.
@@ -27,4 +28,10 @@ pub fn globals_are_apart()
 /// Sections and literals lie apart from every other region of the layout.
 pub fn regions_are_apart()
     ensures { RegionsAreApart }
+{}
+
+/// No two objects of a program share a granule, the 16 bytes that begin at a multiple of 16; literals and
+/// the runtime's objects included.
+pub fn granules_are_unshared()
+    ensures { GranulesAreUnshared }
 {}

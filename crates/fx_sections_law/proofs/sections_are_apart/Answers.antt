@@ -1,4 +1,3 @@
-use Rattle.std.proofs.Common.{length}
 use Rattle.fx_sections.specs.Placement.{program_pairs, program_rooms}
 use Rattle.fx_sections_law.proofs.Sections.{sections_apart}
 use Rattle.fx_sections_law.proofs.sections_are_apart.Goals as goal
