@@ -1,0 +1,4 @@
+pub mod Few
+pub mod Stages
+pub mod Trees
+pub mod Work
