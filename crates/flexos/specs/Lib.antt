@@ -5,3 +5,4 @@ pub mod Reports
 pub mod Plays
 pub mod Comes
 pub mod Runs
+pub mod Places

@@ -1,7 +1,7 @@
 //! The words of a command.
 
 ghost use Rattle.std.specs.Prelude.{◌≡◌, map, MatchOption, string_bytes};
-ghost use Rattle.flexos.specs.Words.{IsExec, IsNoExec, IsUsage, IsCommand};
+ghost use Rattle.flexos.specs.Words.{IsExec, IsNoExec, IsPlace, IsNoPlace, IsUsage, IsCommand};
 ghost use Rattle.flexos.specs.Lines.{name_of};
 
 use crate::came::Which;
@@ -17,11 +17,18 @@ pub struct Exec<'a> {
     pub image: &'a str,
 }
 
+/// The command `place CONF`: puts the placement of the program of CONF's sources.
+#[derive(Clone, Copy, Debug)]
+pub struct Place<'a> {
+    pub config: &'a str,
+}
+
 /// A command.
 #[derive(Clone, Copy, Debug)]
 pub enum Command<'a> {
     Exec(Exec<'a>),
     Run(RunWords<'a>),
+    Place(Place<'a>),
 }
 
 /// The command `exec` that the words are.
@@ -41,6 +48,22 @@ fn exec_of(words: &[String]) -> Option<Exec<'_>>
     }
 }
 
+/// The command `place` that the words are.
+fn place_of(words: &[String]) -> Option<Place<'_>>
+    ensures { MatchOption result (IsNoPlace (map string_bytes words.now)) (λ place. IsPlace (map string_bytes words.now) place.config.now) }
+{
+    if words.len() != 2 {
+        return None;
+    }
+    let command = words[0].as_str();
+    let config = words[1].as_str();
+    if command == "place" && is_file_name(config) {
+        Some(Place { config })
+    } else {
+        None
+    }
+}
+
 /// The command that the words are.
 pub fn command_of(words: &[String]) -> Option<Command<'_>>
     ensures { MatchOption result (IsUsage (map string_bytes words.now)) (IsCommand (map string_bytes words.now)) }
@@ -49,7 +72,10 @@ pub fn command_of(words: &[String]) -> Option<Command<'_>>
         Some(exec) => Some(Command::Exec(exec)),
         None => match RunWords::of(words) {
             Some(run) => Some(Command::Run(run)),
-            None => None,
+            None => match place_of(words) {
+                Some(place) => Some(Command::Place(place)),
+                None => None,
+            },
         },
     }
 }

@@ -113,6 +113,40 @@ fn images_are_run_again(rt: HostRuntime) -> Result<(), Fail> {
     Ok(())
 }
 
+const PLACED: &str = "0000000010000000 2 4096 .rt.a
+0000000010001010 2 4 x
+0000000010001030 2 8 y
+0000000010003000 3 4096 .rt.b
+0000000010004010 3 1 z
+0000000010006000 4 8 s
+";
+
+const TWO_COMPARTMENTS: &[u8] = b"mechanism = 'full'
+library = [{ name = 'a', files = ['a.c'] }, { name = 'b', files = ['b.c'] }]
+compartment = [{ name = 'a', libraries = ['a'] }, { name = 'b', libraries = ['b'] }]
+";
+
+#[test]
+fn programs_are_placed(rt: HostRuntime) -> Result<(), Fail> {
+    let alloc = rt.alloc();
+    let files: [(&str, &[u8]); 3] = [
+        ("conf.toml", TWO_COMPARTMENTS),
+        ("a.c", b"int x; long y; void main() { }"),
+        ("b.c", b"char z; __shared(*) long s;"),
+    ];
+    let left = command(alloc, "place conf.toml", &files, 0, 2000)?;
+    assert_eq!(rt; left.status, 0);
+    assert_eq!(rt; left.out.bytes(), PLACED.as_bytes());
+    assert!(rt; left.err.bytes().is_empty());
+    let left = command(alloc, "place conf.toml", &files[..2], 0, 2000)?;
+    assert_eq!(rt; left.status, 4);
+    assert_eq!(rt; left.err.bytes(), b"no file: b.c\n".as_slice());
+    let left = command(alloc, "place other.toml", &files, 0, 2000)?;
+    assert_eq!(rt; left.status, 4);
+    assert_eq!(rt; left.err.bytes(), b"no file: other.toml\n".as_slice());
+    Ok(())
+}
+
 #[test]
 fn other_words_are_usage(rt: HostRuntime) -> Result<(), Fail> {
     let cases = [
@@ -124,6 +158,9 @@ fn other_words_are_usage(rt: HostRuntime) -> Result<(), Fail> {
         "exec conf.toml -out",
         "exec conf.toml out.img more",
         "Exec conf.toml out.img",
+        "place",
+        "place -x",
+        "place conf.toml more",
     ];
     for text in cases {
         let files = [("conf.toml", EARLY_DOCUMENT.as_bytes())];

@@ -6,9 +6,10 @@ ghost use Rattle.fx_base.specs.Files.{SameFiles};
 ghost use Rattle.fx_device.specs.Bus.{plugged};
 ghost use Rattle.fx_run_words.specs.Words.{RunGiven};
 ghost use Rattle.fx_run_command.specs.Reports.{Ended, Does};
-ghost use Rattle.flexos.specs.Words.{IsExec, IsRun, IsUsage};
+ghost use Rattle.flexos.specs.Words.{IsExec, IsRun, IsPlace, IsUsage};
 ghost use Rattle.flexos.specs.Reports.{Reports};
 ghost use Rattle.flexos.specs.Runs.{DoneRun};
+ghost use Rattle.flexos.specs.Places.{DoesPlace, DonePlace};
 ghost use Rattle.flexos.specs.Plays.{IsOf, Plays};
 ghost use Rattle.flexos.specs.Comes.{Comes, TookNothing, Done};
 
@@ -19,6 +20,7 @@ use crate::play::start;
 use crate::report::{report, report_usage};
 use fx_base::{Files, Sink, Source};
 use fx_device::Device;
+use fx_place_command::place_command;
 use fx_run_command::report::run_command;
 use std::alloc::Global;
 
@@ -45,7 +47,12 @@ fn perform<F: Files, O: Sink>(alloc: Global, files: &mut F, exec: &Exec<'_>, out
 /// count) and `--unplug D N` (device D is unplugged as soon as N operations of it were made). Both files have at
 /// most 16,777,216 bytes.
 ///
-/// All other words are usage. One line goes to `err`. The statuses: 0 the run ended by Exit, 1 an access was
+/// `place CONF` reads CONF and its sources, checks the program, grants and places it, and puts a line for each
+/// object of its image to `out`: its address, key, size and name, in order of address. The limits of the files
+/// are those of `exec`.
+///
+/// All other words are usage. One line goes to `err`, but none where `place` is done. The statuses: 0 the run
+/// ended by Exit or the placement was put, 1 an access was
 /// denied, 2 usage, 3 refused, 4 a file's fault, 5 `out` or `err` failed, 6 out of memory, 7 a stack is full, 8
 /// the turns were spent, 9 Divide, BadThread or ThreadsFull, 10 broken, 11 a device failed, 12 the input failed.
 pub fn flexos<F: Files, I: Source, O: Sink, E: Sink>(
@@ -59,13 +66,14 @@ pub fn flexos<F: Files, I: Source, O: Sink, E: Sink>(
 ) -> u8
     requires { length devices.items ≤ 15 }
     // Status 0: `exec` wrote an image that is faithful to the source read, and the output took the source's
-    // constants; or the run of the image read ended by Exit.
+    // constants; or the run of the image read ended by Exit; or `place` put the placement.
     ensures done { result ≡ 0 → Done (map string_bytes words.now) (F.held files.old) (F.held files.new)
         (O.taken out.old) (O.taken out.new) (E.taken err.old) (E.taken err.new)
         ⊎ DoneRun (map string_bytes words.now) (map (option_map (λ d. (⟦<dyn Device as Device>⟧ d.vtable).meaning d.value)) (plugged 15 devices.items))
         (record { held = F.held files.old; file_faults = F.faults files.old; left = I.left input.old; input_faults = I.faults input.old; taken = O.taken out.old; output_faults = O.faults out.old })
         (record { held = F.held files.new; file_faults = F.faults files.new; left = I.left input.new; input_faults = I.faults input.new; taken = O.taken out.new; output_faults = O.faults out.new })
-        (E.taken err.old) (E.taken err.new) }
+        (E.taken err.old) (E.taken err.new)
+        ⊎ DonePlace (map string_bytes words.now) (F.held files.old) (O.taken out.old) (O.taken out.new) (E.taken err.old) (E.taken err.new) }
     // Status 2 comes of words alone.
     ensures words { result ≡ 2 → IsUsage (map string_bytes words.now) }
     // Words that are no command: status 2 and its line, and nothing is touched.
@@ -85,6 +93,11 @@ pub fn flexos<F: Files, I: Source, O: Sink, E: Sink>(
         (record { held = F.held files.new; file_faults = F.faults files.new; left = I.left input.new; input_faults = I.faults input.new; taken = O.taken out.new; output_faults = O.faults out.new })
         result (E.taken err.old) (E.taken err.new) (E.faults err.old) (E.faults err.new)
         × Told SameFiles (F.held files.old) (F.held files.new) }
+    // `place`: what it came to, each answer with its cause, and the line and status of that. No file is changed.
+    ensures place { (config : List ℕ) → IsPlace (map string_bytes words.now) config →
+        DoesPlace config (F.held files.old) (F.held files.new) (F.faults files.old) (F.faults files.new)
+        (O.taken out.old) (O.taken out.new) (O.faults out.old) (O.faults out.new)
+        result (E.taken err.old) (E.taken err.new) (E.faults err.old) (E.faults err.new) }
 {
     let Some(command) = command_of(words) else {
         return report_usage(err);
@@ -95,5 +108,6 @@ pub fn flexos<F: Files, I: Source, O: Sink, E: Sink>(
             report(alloc, err, &exec, came)
         }
         Command::Run(given) => run_command(alloc, &given, files, input, out, err, devices),
+        Command::Place(place) => place_command(alloc, place.config, files, out, err),
     }
 }

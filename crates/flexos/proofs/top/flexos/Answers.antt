@@ -4,6 +4,7 @@ use Rattle.flexos.specs.Words.{IsExec, IsCommand}
 use Rattle.flexos.specs.declared.command.Command.{Command}
 use Rattle.flexos.proofs.Coming.{done}
 use Rattle.flexos.proofs.Running.{done_run}
+use Rattle.flexos.proofs.Placed.{done_place, does_place}
 use Rattle.flexos.proofs.top.flexos.Goals as goal
 
 pub returns-in-Exec-clause-done : goal.returns-in-Exec-clause-done
@@ -19,4 +20,16 @@ pub returns-in-Run-clause-done : goal.returns-in-Run-clause-done
 returns-in-Run-clause-done g c = λ zero_status.
     let words = map string_bytes c.args.words.now in
     let is_run = subst (λ (command : Command). IsCommand words command) c.in-Run.is c.in-Some.ensures in
-    inr (done_run words (run_given c.in-Run.given) _ _ _ c.run_command.result _ _ _ _ is_run.1 c.run_command.ensures.does zero_status)
+    inr (inl (done_run words (run_given c.in-Run.given) _ _ _ c.run_command.result _ _ _ _ is_run.1 c.run_command.ensures.does zero_status))
+
+pub returns-in-Place-clause-done : goal.returns-in-Place-clause-done
+returns-in-Place-clause-done g c = λ zero_status.
+    let words = map string_bytes c.args.words.now in
+    let is_place = subst (λ (command : Command). IsCommand words command) c.in-Place.is c.in-Some.ensures in
+    inr (inr (done_place words c.in-Place.place.config.now _ _ _ _ _ is_place.2 (c.place_command.ensures.done zero_status)))
+
+pub returns-in-Place-clause-place : goal.returns-in-Place-clause-place
+returns-in-Place-clause-place g c = λ config named.
+    let words = map string_bytes c.args.words.now in
+    let is_place = subst (λ (command : Command). IsCommand words command) c.in-Place.is c.in-Some.ensures in
+    does_place words c.in-Place.place.config.now config _ _ _ _ _ _ _ _ _ _ _ _ _ is_place.2 named c.place_command.ensures.comes c.place_command.ensures.keeps

@@ -1,0 +1,5 @@
+int x;
+long y;
+
+void main() {
+}

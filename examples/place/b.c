@@ -1,0 +1,2 @@
+char z;
+__shared(*) long s;
