@@ -14,7 +14,7 @@ use Rattle.fx_run_words.specs.Words.{run_words}
 use Rattle.flexos.specs.Words.{IsExec, IsPlace}
 use Rattle.flexos.specs.Places.{DoesPlace, DonePlace}
 
-two_words : 3 ≡ 2 → ⊥
+two_words : ◌≡◌ {A = ℕ} 3 2 → ⊥
 two_words e = omega arith
 
 -- words are one command alone
