@@ -1,0 +1,9 @@
+pub mod Shapes
+pub mod Lists
+pub mod Nodes
+pub mod Scope
+pub mod Callees
+pub mod Bodies
+pub mod Tied
+pub mod Programs
+pub mod Facts
