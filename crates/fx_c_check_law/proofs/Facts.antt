@@ -39,7 +39,7 @@ use Rattle.fx_c_check.specs.Programs.{ProgramTree, has_none, gives_status}
 use Rattle.fx_c_check.specs.ProgramView.{declarations, function_tree, function_trees, program_tree}
 use Rattle.fx_c_check.specs.declared.program.SourceFile.{SourceFile}
 use Rattle.fx_c_check_law.specs.Jumps.{all_inside}
-use Rattle.fx_c_check_law.specs.Laws.{IsChecked}
+use Rattle.fx_c_check_law.specs.WellTyped.{WellTyped}
 use Rattle.fx_c_check_law.proofs.Known.{Agree, Describes, type_same, sized_same, table_is, structs_sized}
 use Rattle.fx_c_check_law.proofs.Ends.{Ends}
 use Rattle.fx_c_check_law.proofs.Heads.{all_types, IsSizedLocal, IsSizedGlobal}
@@ -84,7 +84,7 @@ slots_same layouts tss bound same (l ∷ ls) all =
     ap (λ (x : Layout). round_up x.size 16 + 16 + slots_size layouts (local_trees ls)) (type_same (known layouts) (known_layouts tss) (known layouts) bound same (ty_tree l.ty) sized)
     ∙ ap (λ n. round_up (type_layout (known_layouts tss) (ty_tree l.ty)).size 16 + 16 + n) (slots_same layouts tss bound same ls (All-tail (IsSizedLocal layouts bound) (record { shared = l.shared; ty = ty_tree l.ty }) (local_trees ls) all))
 
-pub accepted_is : (files : List SourceFile) (p : TProgram) → IsChecked files p → IsAccepted (length (declarations files)) (program_tree p)
+pub accepted_is : (files : List SourceFile) (p : TProgram) → WellTyped files p → IsAccepted (length (declarations files)) (program_tree p)
 accepted_is files p is = subst (λ r. Ends (IsAccepted (length (declarations files))) r) is (accepted (declarations files))
 
 module _ (p : TProgram) (count : ℕ) (has : IsAccepted count (program_tree p)) where

@@ -17,7 +17,7 @@ use Rattle.fx_c_heads.proofs.Fields.{types_are, length-struct_trees}
 use Rattle.fx_c_check.specs.declared.program.SourceFile.{SourceFile}
 use Rattle.fx_c_check.specs.Programs as program
 use Rattle.fx_c_check.specs.ProgramView.{declarations, function_tree, function_trees, program_tree}
-use Rattle.fx_c_check_law.specs.Laws.{IsChecked}
+use Rattle.fx_c_check_law.specs.WellTyped.{WellTyped}
 use Rattle.fx_c_check_law.proofs.Ends.{Ends}
 use Rattle.fx_c_check_law.proofs.Heads.{all_types, length-all_types}
 use Rattle.fx_c_typed_law.specs.Tables.{Tables, IsNamed, head_of, heads_of, tables}
@@ -27,7 +27,7 @@ use Rattle.fx_c_typed_law.specs.Laws.{NumbersFit}
 use Rattle.fx_c_typed_law.proofs.Scope.{tables_in, AreNamed}
 use Rattle.fx_c_typed_law.proofs.Programs.{tree_head, IsRightFunction, IsRightProgram, accepted_right}
 
-pub right_program : (files : List SourceFile) (p : TProgram) → IsChecked files p → IsRightProgram (program_tree p)
+pub right_program : (files : List SourceFile) (p : TProgram) → WellTyped files p → IsRightProgram (program_tree p)
 right_program files p is = subst (λ r. Ends IsRightProgram r) is (accepted_right (declarations files))
 
 -- ---- lists

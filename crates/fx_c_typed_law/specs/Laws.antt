@@ -8,7 +8,7 @@ use Rattle.fx_c_ast.specs.declared.checked.TFunction.{TFunction}
 use Rattle.fx_c_ast.specs.declared.checked.TProgram.{TProgram}
 use Rattle.fx_c_ast.specs.CheckedTrees.{ty_tree, tstmt_trees}
 use Rattle.fx_c_check.specs.declared.program.SourceFile.{SourceFile}
-use Rattle.fx_c_check_law.specs.Laws.{IsChecked}
+use Rattle.fx_c_check_law.specs.WellTyped.{WellTyped}
 use Rattle.fx_c_typed_law.specs.Tables.{IsNamed, tables}
 use Rattle.fx_c_typed_law.specs.Nodes.{IsAnswer}
 use Rattle.fx_c_typed_law.specs.Trees.{AreRight}
@@ -19,18 +19,18 @@ NumbersFit p = (length p.literals ≤ 2 ^ 32) × All (λ (s : TStruct). length s
 
 -- each struct that a type of a global or of a member names is there
 abbrev pub CheckedProgramsNameTypes : Type 0
-CheckedProgramsNameTypes = (files : List SourceFile) (p : TProgram) → IsChecked files p
+CheckedProgramsNameTypes = (files : List SourceFile) (p : TProgram) → WellTyped files p
     → All (λ (v : TGlobal). IsNamed (length p.structs) (ty_tree v.ty)) p.globals
     × All (λ (s : TStruct). All (λ (m : TMember). IsNamed (length p.structs) (ty_tree m.ty)) s.members) p.structs
 
 -- so is each that a type of a parameter or a local names, or that of a function's result, which is a scalar or void;
 -- the parameters are there
 abbrev pub CheckedFunctionsNameTypes : Type 0
-CheckedFunctionsNameTypes = (files : List SourceFile) (p : TProgram) → IsChecked files p
+CheckedFunctionsNameTypes = (files : List SourceFile) (p : TProgram) → WellTyped files p
     → All (λ (f : TFunction). IsNamed (length p.structs) (ty_tree f.result) × IsAnswer (ty_tree f.result) × (f.params ≤ length f.locals)
     × All (λ (l : TLocal). IsNamed (length p.structs) (ty_tree l.ty)) f.locals) p.functions
 
 -- in each body all numbers are there and all types are right
 abbrev pub CheckedProgramsAreRight : Type 0
-CheckedProgramsAreRight = (files : List SourceFile) (p : TProgram) → IsChecked files p → NumbersFit p
+CheckedProgramsAreRight = (files : List SourceFile) (p : TProgram) → WellTyped files p → NumbersFit p
     → All (λ (f : TFunction). AreRight (tables p f) (tstmt_trees f.body.items)) p.functions
