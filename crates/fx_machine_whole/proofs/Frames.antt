@@ -1,5 +1,5 @@
 -- Where pages are that may be written, and where those of code, and which frames they have.
-use Rattle.std.proofs.Common.{◌≡◌, ℕ, ◌+◌, ◌*◌, ◌-◌, ◌<◌, ◌≤◌, ◌⊎◌, inl, inr, true, false, Option, None, Some, refl, sym, ap, ◌∙◌, subst, arith}
+use Rattle.std.proofs.Common.{◌≡◌, ℕ, ◌<◌, ◌≤◌, ◌⊎◌, inl, inr, true, Option, Some, refl, sym, ◌∙◌, subst, arith}
 use Rattle.fx_vm_pages.specs.Entries.{is_writable, is_executable}
 use Rattle.fx_vm_pages.specs.declared.entry.Entry.{Entry}
 use Rattle.fx_image.specs.Rules.{IsImage}

@@ -9,3 +9,4 @@ pub mod Turning
 pub mod Ends
 pub mod Lines
 pub mod Frames
+pub mod Putting

@@ -6,3 +6,4 @@ pub mod Turns
 pub mod Operations
 pub mod Lines
 pub mod Frames
+pub mod Filling

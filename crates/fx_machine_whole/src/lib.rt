@@ -12,6 +12,7 @@ pub mod boot;
 pub mod check;
 pub mod code;
 pub mod fetch;
+pub mod filling;
 pub mod laws;
 pub mod layout;
 pub mod machine;

@@ -11,9 +11,10 @@ ghost use Rattle.fx_machine.specs.Boot.{boot_byte};
 ghost use Rattle.fx_machine.specs.Regions.{sections_end};
 ghost use Rattle.fx_machine_whole.specs.Memory.{memory_of, held, is_held, IsLaidOut, HasWord};
 
+use crate::filling::region;
 use crate::layout::is_ept;
 use fx_image::{Image, Section};
-use fx_machine::boot::{boot_byte, byte_of, region};
+use fx_machine::boot::{boot_byte, byte_of};
 use fx_machine::layout::{stack_count, stack_span};
 use fx_x64_forms::operand::Width;
 use std::alloc::{AllocError, Global};
