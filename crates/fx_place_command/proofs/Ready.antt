@@ -14,15 +14,17 @@ use Rattle.fx_sources.specs.declared.parsing.ParsedFile.{ParsedFile}
 use Rattle.fx_sources.specs.Loading.{HasFewParts}
 use Rattle.fx_program.specs.Programs.{sources_of, IsProgramOf}
 use Rattle.fx_program.proofs.Counting.{few_declarations}
+use Rattle.fx_c_strings.proofs.Checked.{literals_written}
 use Rattle.fx_placing.specs.Placing.{IsReady}
+use Rattle.fx_place_command.proofs.Strings.{few_written}
 
-pub ready : (name : List ℕ) (held : Option Held) (k : Config) (p : TProgram) → IsProgramOf name held k p → HasFewParts k → length p.literals < 2 ^ 30 → IsReady p k
-ready name held k p is parts literals =
+pub ready : (name : List ℕ) (held : Option Held) (k : Config) (p : TProgram) → IsProgramOf name held k p → HasFewParts k → IsReady p k
+ready name held k p is parts =
     let files : List SourceFile = sources_of is.0 in
     let count = few_declarations name held k is.0 is.1 parts in
     let accepted = accepted_is files p is.2 in
     let numbers = few p (length (declarations files)) accepted in
-    let objects : length p.globals + length p.literals < 2147483648 = omega (arith, numbers.0, count, literals) in
+    let objects : length p.globals + length p.literals < 2147483648 = omega (arith, numbers.0, count, literals_written files p is.2, few_written name held k is.0 is.1 parts) in
     let at : IsPlaceable p (grants_of p k) k = placeable p (length (declarations files)) accepted (grants_of p k) k (length-map p.globals (pair_of k (homes_of k))) parts.compartments objects in
     record {
       functions = omega (arith, numbers.1, count);

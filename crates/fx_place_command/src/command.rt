@@ -1,6 +1,6 @@
 //! What the command does, in the order of work.
 
-ghost use Rattle.std.specs.Prelude.{◌≡◌, ◌<◌, ◌^◌, OnOk, IfErr, IfOk, length};
+ghost use Rattle.std.specs.Prelude.{OnOk, IfErr, IfOk};
 ghost use Rattle.fx_base.specs.Told.{Told};
 ghost use Rattle.fx_base.specs.Files.{SameFiles};
 ghost use Rattle.fx_placing.specs.Placing.{IsReady, WasPut, PlacingCause};
@@ -10,13 +10,9 @@ ghost use Rattle.fx_place_command.specs.Comes.{IsUnloaded, IsUnput, Comes};
 
 use crate::failure::PlaceFailure;
 use fx_base::{Files, Sink};
-use fx_placing::{Unplaced, put_placement};
+use fx_placing::put_placement;
 use fx_program::{Program, load_program};
 use std::alloc::Global;
-
-/// A program of so many strings or more asks for more memory than its sources, of 67,108,864 bytes
-/// together, can.
-const STRING_LIMIT: usize = 1_073_741_824;
 
 fn loaded<F: Files>(alloc: Global, files: &mut F, name: &str) -> Result<Program, PlaceFailure>
     ensures keeps { Told SameFiles (F.held files.old) (F.held files.new) }
@@ -31,13 +27,10 @@ fn loaded<F: Files>(alloc: Global, files: &mut F, name: &str) -> Result<Program,
 }
 
 fn put<O: Sink>(alloc: Global, x: &Program, out: &mut O) -> Result<(), PlaceFailure>
-    requires { length x.now.program.literals < 2 ^ 30 → IsReady x.now.program x.now.config }
+    requires { IsReady x.now.program x.now.config }
     ensures put { OnOk result (WasPut x.now.program x.now.config (O.taken out.old) (O.taken out.new)) }
     ensures cause { IfErr result (IsUnput x.now.program x.now.config (O.taken out.old) (O.taken out.new) (O.faults out.old) (O.faults out.new)) }
 {
-    if x.program.literals.len() >= STRING_LIMIT {
-        return Err(PlaceFailure::Placing(Unplaced::OutOfMemory));
-    }
     match put_placement(alloc, &x.program, &x.config, out) {
         Ok(()) => Ok(()),
         Err(error) => Err(PlaceFailure::Placing(error)),
