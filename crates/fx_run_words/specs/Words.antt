@@ -1,5 +1,5 @@
--- The words of the command `run IMAGE` with its options.
-use Rattle.std.specs.Prelude.{ℕ, ◌+◌, ◌*◌, ◌-◌, ◌^◌, ◌==◌, Bool, false, not, ◌&&◌, ◌||◌, nat_le, nat_lt, if◌then◌else◌, List, [], ◌∷◌, Option, Some, None, option_map, option_and_then, codes, bytes_eq}
+-- The words of the commands `run IMAGE` and `exec CONF IMAGE` with the options of a run.
+use Rattle.std.specs.Prelude.{ℕ, ◌+◌, ◌*◌, ◌-◌, ◌^◌, ◌==◌, Bool, false, not, ◌&&◌, nat_le, nat_lt, if◌then◌else◌, List, [], ◌∷◌, Option, Some, None, option_map, option_and_then, codes, bytes_eq}
 
 -- ---- numbers
 
@@ -73,14 +73,31 @@ options_of (flag ∷ value ∷ next ∷ rest) o =
 abbrev pub none_given : Given
 none_given = record { steps = None; schedule = None; unplug = None }
 
--- The command `run IMAGE`.
+-- An image's name, and the options of its run.
 pub record RunGiven : Type 0 where
   pub image : List ℕ
   pub options : Given
 
+-- ---- commands
+
+-- The image and the options, behind a command.
+abbrev pub run_behind : List (List ℕ) → Option RunGiven
+run_behind [] = None
+run_behind (image ∷ rest) =
+    if is_file_name image then option_map (λ o. record { image = image; options = o }) (options_of rest none_given) else None
+
+-- The command `run IMAGE`.
 abbrev pub run_words : List (List ℕ) → Option RunGiven
 run_words [] = None
-run_words (command ∷ []) = None
-run_words (command ∷ image ∷ rest) =
-    if not (bytes_eq command (codes "run")) || not (is_file_name image) then None
-    else option_map (λ o. record { image = image; options = o }) (options_of rest none_given)
+run_words (command ∷ rest) = if bytes_eq command (codes "run") then run_behind rest else None
+
+-- The command `exec CONF IMAGE`: the configuration, and the run of the image that is built.
+pub record ExecGiven : Type 0 where
+  pub config : List ℕ
+  pub run : RunGiven
+
+abbrev pub exec_words : List (List ℕ) → Option ExecGiven
+exec_words [] = None
+exec_words (command ∷ []) = None
+exec_words (command ∷ config ∷ rest) =
+    if bytes_eq command (codes "exec") && is_file_name config then option_map (λ r. record { config = config; run = r }) (run_behind rest) else None

@@ -1,4 +1,4 @@
-//! The words of the command `run IMAGE` with its options.
+//! The words of the commands `run IMAGE` and `exec CONF IMAGE` with the options of a run.
 #![tactic(auto)]
 
 #[cfg(test)]

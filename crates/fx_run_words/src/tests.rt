@@ -1,6 +1,6 @@
 //! What words are a command `run`, with worked values.
 
-use crate::words::{RunWords, number_of};
+use crate::words::{ExecWords, RunWords, number_of};
 use std::alloc::{AllocError, Global};
 use std::test::Fail;
 
@@ -43,6 +43,18 @@ fn options_are_read(rt: HostRuntime) -> Result<(), Fail> {
 }
 
 #[test]
+fn options_of_exec_are_read(rt: HostRuntime) -> Result<(), Fail> {
+    let words = words(rt.alloc(), "exec a.toml a.img --steps 7 --unplug 2 9")?;
+    let exec = ExecWords::of(&words).ok_or("no command")?;
+    assert_eq!(rt; exec.config, "a.toml");
+    assert_eq!(rt; exec.run.image, "a.img");
+    assert_eq!(rt; exec.run.options.steps, Some(7));
+    assert!(rt; exec.run.options.schedule.is_none());
+    assert_eq!(rt; exec.run.options.unplug, Some((2, 9)));
+    Ok(())
+}
+
+#[test]
 fn other_words_are_no_command(rt: HostRuntime) -> Result<(), Fail> {
     let cases = [
         "",
@@ -60,10 +72,19 @@ fn other_words_are_no_command(rt: HostRuntime) -> Result<(), Fail> {
         "run x --replace a b",
         "run x y",
         "run --steps 1 x",
+        "exec",
+        "exec a",
+        "exec -a b",
+        "exec a -b",
+        "exec a b c",
+        "exec a --steps 1 b",
+        "exec a b --replace c d",
+        "Exec a b",
     ];
     for text in cases {
         let words = words(rt.alloc(), text)?;
         assert!(rt; RunWords::of(&words).is_none(), "{text}");
+        assert!(rt; ExecWords::of(&words).is_none(), "{text}");
     }
     Ok(())
 }

@@ -1,4 +1,4 @@
-//! The words of the command `run`.
+//! The words of the commands `run` and `exec`.
 
 ghost use Rattle.std.specs.Prelude.{◌≡◌, ℕ, ◌<◌, List, Option, Some, None, option_map, map, string_bytes, codes};
 ghost use Rattle.fx_run_words.specs.Words.{next_number, digits_number, number_of, is_file_name, device_of, plug_of};
@@ -19,6 +19,13 @@ pub struct Options<'a> {
 pub struct RunWords<'a> {
     pub image: &'a str,
     pub options: Options<'a>,
+}
+
+/// The command `exec CONF IMAGE`: the configuration whose image is built, and the run of that image.
+#[derive(Clone, Copy, Debug)]
+pub struct ExecWords<'a> {
+    pub config: &'a str,
+    pub run: RunWords<'a>,
 }
 
 /// The number with one more decimal digit behind it.
@@ -196,15 +203,16 @@ impl<'a> Options<'a> {
 
 impl<'a> RunWords<'a> {
     ghost use Rattle.fx_run_words.specs.Views.{run_given};
-    ghost use Rattle.fx_run_words.specs.Words.{run_words};
+    ghost use Rattle.fx_run_words.specs.Words.{run_behind, run_words};
 
-    /// The command `run` that the words are.
-    pub fn of(words: &'a [String]) -> Option<RunWords<'a>>
-        ensures { option_map run_given result ≡ run_words (map string_bytes words.now) }
+    /// The image and the options that the words behind a command are.
+    fn behind(words: &'a [String]) -> Option<RunWords<'a>>
+        ensures { option_map run_given result ≡ run_behind (map string_bytes words.now) }
     {
         match words {
-            [command, image, rest @ ..] => {
-                if command.as_str() != "run" || !is_file_name(image.as_str()) {
+            [] => None,
+            [image, rest @ ..] => {
+                if !is_file_name(image.as_str()) {
                     return None;
                 }
                 let options = Options::none().with_words(rest)?;
@@ -213,7 +221,47 @@ impl<'a> RunWords<'a> {
                     options,
                 })
             }
-            _ => None,
+        }
+    }
+
+    /// The command `run` that the words are.
+    pub fn of(words: &'a [String]) -> Option<RunWords<'a>>
+        ensures { option_map run_given result ≡ run_words (map string_bytes words.now) }
+    {
+        match words {
+            [] => None,
+            [command, rest @ ..] => {
+                if command.as_str() == "run" {
+                    RunWords::behind(rest)
+                } else {
+                    None
+                }
+            }
+        }
+    }
+}
+
+impl<'a> ExecWords<'a> {
+    ghost use Rattle.fx_run_words.specs.Views.{exec_given};
+    ghost use Rattle.fx_run_words.specs.Words.{exec_words};
+
+    /// The command `exec` that the words are.
+    pub fn of(words: &'a [String]) -> Option<ExecWords<'a>>
+        ensures { option_map exec_given result ≡ exec_words (map string_bytes words.now) }
+    {
+        match words {
+            [] => None,
+            [_] => None,
+            [command, config, rest @ ..] => {
+                if command.as_str() != "exec" || !is_file_name(config.as_str()) {
+                    return None;
+                }
+                let run = RunWords::behind(rest)?;
+                Some(ExecWords {
+                    config: config.as_str(),
+                    run,
+                })
+            }
         }
     }
 }
