@@ -1,4 +1,4 @@
--- What the command `run` comes to.
+-- What an image's run comes to, and what the command `run` does.
 use Rattle.std.specs.Prelude.{◌≡◌, ℕ, List, Option, Result, Ok, Err, unwrap_or}
 use Rattle.fx_base.specs.Told.{Told}
 use Rattle.fx_base.specs.Files.{Held}
@@ -9,8 +9,8 @@ use Rattle.fx_run_outcomes.specs.declared.outcome.Outcome.{Outcome}
 use Rattle.fx_run_whole.specs.Ran.{RunsTo, HasCause, Output, Input}
 use Rattle.fx_verdicts.specs.Verdicts.{verdict_of}
 use Rattle.fx_verdicts.specs.declared.verdict.Verdict.{Verdict}
-use Rattle.fx_run_words.specs.Words.{RunGiven}
-use Rattle.fx_run_command.specs.Causes.{HasImage, HasSchedule, WhyUnbegun}
+use Rattle.fx_run_words.specs.Words.{Given, RunGiven}
+use Rattle.fx_run_command.specs.Causes.{HasImage, HasSchedule, ScheduleCause, WhyUnbegun}
 use Rattle.fx_run_command.specs.declared.command.Finished.{Finished}
 use Rattle.fx_run_command.specs.declared.load.Unbegun.{Unbegun}
 
@@ -28,23 +28,40 @@ pub record Streams : Type 0 where
 abbrev pub default_budget : ℕ
 default_budget = 50_000_000
 
-abbrev pub budget_of : RunGiven → ℕ
-budget_of given = unwrap_or given.options.steps default_budget
+abbrev pub budget_of : Given → ℕ
+budget_of options = unwrap_or options.steps default_budget
 
--- The image read was run by the schedule read, as long as its run goes or until the budget is spent, with these
+-- An image was run by the schedule read, as long as its run goes or until the budget is spent, with these
 -- devices in their boxes. What it came to is the verdict.
-pub record Ran (given : RunGiven) (boxes : List (Option Meaning)) (before after : Streams) (image : Image) (verdict : Verdict) : Type 0 where
+pub record RunsImage (options : Given) (boxes : List (Option Meaning)) (before after : Streams) (image : Image) (verdict : Verdict) : Type 0 where
   pub schedule : List ℕ
   pub outcome : Outcome
   pub turns : ℕ
   pub transcript : List DeviceOp
-  pub image_read : HasImage before.held given.image image
-  pub schedule_read : HasSchedule before.held given.options.schedule schedule
-  pub ran : RunsTo image schedule (budget_of given) given.options.unplug boxes outcome turns transcript
+  pub schedule_read : HasSchedule before.held options.schedule schedule
+  pub ran : RunsTo image schedule (budget_of options) options.unplug boxes outcome turns transcript
   pub output : Told (Output outcome transcript) before.taken after.taken
   pub input : Told (Input outcome transcript) before.left after.left
-  pub cause : HasCause image schedule given.options.unplug boxes turns transcript before.input_faults after.input_faults before.output_faults after.output_faults outcome
+  pub cause : HasCause image schedule options.unplug boxes turns transcript before.input_faults after.input_faults before.output_faults after.output_faults outcome
   pub called : verdict ≡ verdict_of image outcome turns
+
+-- No run of the image was begun: why, and that neither input nor output was touched.
+pub record NotRun (options : Given) (before after : Streams) (why : Unbegun) : Type 0 where
+  pub why_not : ScheduleCause options.schedule before.held before.file_faults after.file_faults why
+  pub input : after.left ≡ before.left
+  pub output : after.taken ≡ before.taken
+
+-- What an image's run came to.
+abbrev pub ImageComes : Given → List (Option Meaning) → Streams → Streams → Image → Result Finished Unbegun → Type 0
+ImageComes options boxes before after image (Ok done) = (done.image ≡ image) × RunsImage options boxes before after image done.verdict
+ImageComes options boxes before after image (Err why) = NotRun options before after why
+
+-- ---- the command `run`
+
+-- The image read was run.
+pub record Ran (given : RunGiven) (boxes : List (Option Meaning)) (before after : Streams) (image : Image) (verdict : Verdict) : Type 0 where
+  pub image_read : HasImage before.held given.image image
+  pub run : RunsImage given.options boxes before after image verdict
 
 -- No run was begun: why, and that neither input nor output was touched.
 pub record NotBegun (given : RunGiven) (before after : Streams) (why : Unbegun) : Type 0 where

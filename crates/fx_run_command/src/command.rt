@@ -1,18 +1,19 @@
-//! What the command `run` does.
+//! The run of an image, and what the command `run` does.
 
 ghost use Rattle.std.specs.Prelude.{◌≡◌, ◌≤◌, ℕ, length, map, option_map};
 ghost use Rattle.fx_base.specs.Told.{Told};
 ghost use Rattle.fx_base.specs.Files.{SameFiles};
 ghost use Rattle.fx_device.specs.Bus.{plugged};
-ghost use Rattle.fx_run_words.specs.Views.{run_given};
-ghost use Rattle.fx_run_command.specs.Comes.{Comes, budget_of};
+ghost use Rattle.fx_image.specs.Rules.{IsImage};
+ghost use Rattle.fx_run_words.specs.Views.{given, run_given};
+ghost use Rattle.fx_run_command.specs.Comes.{Comes, ImageComes, budget_of};
 
-use crate::load::{Loaded, Unbegun, load};
+use crate::load::{Unbegun, take_image, take_schedule};
 use fx_base::{Files, Sink, Source};
 use fx_device::Device;
 use fx_image::Image;
 use fx_run_whole::run::run;
-use fx_run_words::words::RunWords;
+use fx_run_words::words::{Options, RunWords};
 use fx_verdicts::verdict::{Verdict, verdict_of};
 use std::alloc::Global;
 
@@ -27,14 +28,48 @@ pub struct Finished {
 const DEFAULT_BUDGET: u64 = 50_000_000;
 
 /// The most turns of a run.
-fn budget_of(words: &RunWords<'_>) -> u64
-    ensures { result ≡ budget_of (run_given words.now) }
+fn budget_of(options: &Options<'_>) -> u64
+    ensures { result ≡ budget_of (given options.now) }
 {
-    words.options.steps.unwrap_or(DEFAULT_BUDGET)
+    options.steps.unwrap_or(DEFAULT_BUDGET)
 }
 
-/// Reads the image and the schedule, and runs it with these devices, at most fifteen: the i-th, from 0, is
-/// device i + 1. Files are read of at most 16,777,216 bytes.
+/// Reads the schedule and runs an image with these devices, at most fifteen: the i-th, from 0, is device i + 1.
+/// The schedule has at most 16,777,216 bytes.
+pub fn run_image<F: Files, I: Source, O: Sink>(
+    alloc: Global,
+    image: Image,
+    options: &Options<'_>,
+    files: &mut F,
+    input: &mut I,
+    out: &mut O,
+    devices: Vec<Box<dyn Device>>,
+) -> Result<Finished, Unbegun>
+    requires whole { IsImage image }
+    requires few { length devices.items ≤ 15 }
+    ensures keeps { Told SameFiles (F.held files.old) (F.held files.new) }
+    ensures comes { ImageComes (given options.now) (map (option_map (λ d. (⟦<dyn Device as Device>⟧ d.vtable).meaning d.value)) (plugged 15 devices.items))
+        (record { held = F.held files.old; file_faults = F.faults files.old; left = I.left input.old; input_faults = I.faults input.old; taken = O.taken out.old; output_faults = O.faults out.old })
+        (record { held = F.held files.new; file_faults = F.faults files.new; left = I.left input.new; input_faults = I.faults input.new; taken = O.taken out.new; output_faults = O.faults out.new })
+        image result }
+{
+    let schedule = take_schedule(alloc, files, options.schedule)?;
+    let ended = run(
+        alloc,
+        &image,
+        &schedule,
+        budget_of(options),
+        options.unplug,
+        input,
+        out,
+        devices,
+    );
+    let verdict = verdict_of(&image, ended.outcome, ended.turns);
+    Ok(Finished { image, verdict })
+}
+
+/// Reads the image, and runs it with these devices, at most fifteen: the i-th, from 0, is device i + 1. Files
+/// are read of at most 16,777,216 bytes.
 pub fn perform<F: Files, I: Source, O: Sink>(
     alloc: Global,
     words: &RunWords<'_>,
@@ -50,17 +85,6 @@ pub fn perform<F: Files, I: Source, O: Sink>(
         (record { held = F.held files.new; file_faults = F.faults files.new; left = I.left input.new; input_faults = I.faults input.new; taken = O.taken out.new; output_faults = O.faults out.new })
         result }
 {
-    let Loaded { image, schedule } = load(alloc, files, words)?;
-    let ended = run(
-        alloc,
-        &image,
-        &schedule,
-        budget_of(words),
-        words.options.unplug,
-        input,
-        out,
-        devices,
-    );
-    let verdict = verdict_of(&image, ended.outcome, ended.turns);
-    Ok(Finished { image, verdict })
+    let image = take_image(alloc, files, words.image)?;
+    run_image(alloc, image, &words.options, files, input, out, devices)
 }

@@ -26,7 +26,7 @@ fn name_of<'a>(words: &RunWords<'a>, which: Which) -> &'a str
 }
 
 /// The words of a file's fault.
-fn fault_words(alloc: Global, name: &str, error: FileError) -> Result<String, AllocError>
+pub fn fault_words(alloc: Global, name: &str, error: FileError) -> Result<String, AllocError>
     ensures { IfOk result (λ s. string_bytes s ≡ file_words error ++ name.now) }
 {
     let words = match error {

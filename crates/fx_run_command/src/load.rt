@@ -1,15 +1,13 @@
-//! The files that a run reads: the image, and then the schedule.
+//! The files that a run reads: the image and the schedule.
 
 ghost use Rattle.std.specs.Prelude.{ℕ, ◌≤◌, List, Option, IfOk, IfErr, option_map};
 ghost use Rattle.fx_base.specs.Told.{Told};
 ghost use Rattle.fx_base.specs.Files.{SameFiles};
 ghost use Rattle.fx_image.specs.ImageBytes.{ImageBytes};
-ghost use Rattle.fx_run_words.specs.Views.{run_given};
-ghost use Rattle.fx_run_command.specs.Causes.{HasImage, ImageCause, HasSchedule, ScheduleCause, IsRefused, WhyUnbegun};
+ghost use Rattle.fx_run_command.specs.Causes.{HasImage, ImageCause, HasSchedule, ScheduleCause, IsRefused};
 
 use fx_base::{FileError, Files};
 use fx_image::{Image, ImageError, read};
-use fx_run_words::words::RunWords;
 use std::alloc::Global;
 
 /// One of the files that a run reads.
@@ -45,7 +43,7 @@ fn image_of(alloc: Global, bytes: &[u8]) -> Result<Image, Unbegun>
 }
 
 /// Reads the image.
-fn take_image<F: Files>(alloc: Global, files: &mut F, name: &str) -> Result<Image, Unbegun>
+pub fn take_image<F: Files>(alloc: Global, files: &mut F, name: &str) -> Result<Image, Unbegun>
     ensures keeps { Told SameFiles (F.held files.old) (F.held files.new) }
     ensures later { F.faults files.old ≤ F.faults files.new }
     ensures image { IfOk result (HasImage (F.held files.old) name.now) }
@@ -62,7 +60,7 @@ fn take_image<F: Files>(alloc: Global, files: &mut F, name: &str) -> Result<Imag
 }
 
 /// Reads the schedule, where one is named.
-fn take_schedule<F: Files>(
+pub fn take_schedule<F: Files>(
     alloc: Global,
     files: &mut F,
     name: Option<&str>,
@@ -84,24 +82,4 @@ fn take_schedule<F: Files>(
             error,
         }),
     }
-}
-
-/// What a run begins with.
-#[derive(Drop)]
-pub struct Loaded {
-    pub image: Image,
-    pub schedule: Vec<u8>,
-}
-
-/// Reads the image, refuses it, and reads the schedule.
-pub fn load<F: Files>(alloc: Global, files: &mut F, words: &RunWords<'_>) -> Result<Loaded, Unbegun>
-    ensures keeps { Told SameFiles (F.held files.old) (F.held files.new) }
-    ensures later { F.faults files.old ≤ F.faults files.new }
-    ensures image { IfOk result (λ l. HasImage (F.held files.old) (run_given words.now).image l.image) }
-    ensures schedule { IfOk result (λ l. HasSchedule (F.held files.old) (run_given words.now).options.schedule l.schedule.items) }
-    ensures cause { IfErr result (WhyUnbegun (run_given words.now) (F.held files.old) (F.faults files.old) (F.faults files.new)) }
-{
-    let image = take_image(alloc, files, words.image)?;
-    let schedule = take_schedule(alloc, files, words.options.schedule)?;
-    Ok(Loaded { image, schedule })
 }

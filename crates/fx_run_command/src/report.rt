@@ -47,7 +47,7 @@ pub fn report_out_of_memory<E: Sink>(err: &mut E) -> u8
 }
 
 /// Puts the line of what a run came to, and answers its status.
-fn report<E: Sink>(
+pub fn report<E: Sink>(
     alloc: Global,
     err: &mut E,
     words: &RunWords<'_>,

@@ -1,0 +1,6 @@
+pub mod Lines
+pub mod Causes
+pub mod Builds
+pub mod Runs
+pub mod Reports
+pub mod Does
