@@ -1,5 +1,2 @@
-pub mod Constants
-pub mod Holding
-pub mod Coming
 pub mod Running
 pub mod Placed

@@ -10,18 +10,13 @@ use Rattle.fx_place_command.specs.Comes.{Comes, PlacesProgram}
 use Rattle.fx_place_command.specs.Reports.{Reports}
 use Rattle.fx_place_command.specs.declared.failure.PlaceFailure.{PlaceFailure}
 use Rattle.fx_place_command.specs.declared.failure.PlaceFailure.TheVariants.{Program, Placing}
-use Rattle.fx_run_words.specs.Words.{run_words}
-use Rattle.flexos.specs.Words.{IsExec, IsPlace}
+use Rattle.fx_run_words.specs.Words.{run_words, exec_words}
+use Rattle.flexos.specs.Words.{IsPlace}
 use Rattle.flexos.specs.Places.{DoesPlace, DonePlace}
 
-two_words : ◌≡◌ {A = ℕ} 3 2 → ⊥
-two_words e = omega arith
-
 -- words are one command alone
-pub exec_is_no_place : (words : List (List ℕ)) (config image other : List ℕ) → IsExec words config image → IsPlace words other → ⊥
-exec_is_no_place words config image other exec place = lengths (sym exec.0 ∙ place.0) where
-  lengths : codes "exec" ∷ config ∷ image ∷ [] ≡ codes "place" ∷ other ∷ [] → ⊥
-  lengths e = two_words (ap length e)
+pub place_is_no_exec : (words : List (List ℕ)) (config : List ℕ) → IsPlace words config → exec_words words ≡ None
+place_is_no_exec words config place = ap exec_words place.0
 
 pub place_is_no_run : (words : List (List ℕ)) (config : List ℕ) → IsPlace words config → run_words words ≡ None
 place_is_no_run words config place = ap run_words place.0

@@ -1,5 +1,5 @@
 -- What the command `run` came to, seen from the top call.
-use Rattle.std.proofs.Common.{◌≡◌, ℕ, ◌<◌, List, Option, Some, None, Result, Ok, Err, inl, inr, sym, ◌∙◌, ap, subst, arith}
+use Rattle.std.proofs.Common.{◌≡◌, ℕ, ◌<◌, List, [], ◌∷◌, Bool, true, false, cond, codes, refl, Option, Some, None, Result, Ok, Err, inl, inr, sym, ◌∙◌, ap, subst, arith}
 use Rattle.fx_base.specs.Told.{Told}
 use Rattle.fx_device.specs.Rules.{Meaning}
 use Rattle.fx_image.specs.declared.forms.Image.{Image}
@@ -8,9 +8,13 @@ use Rattle.fx_verdicts.specs.Lines.{line_of}
 use Rattle.fx_verdicts.specs.Verdicts.{status_of}
 use Rattle.fx_verdicts.specs.declared.verdict.Verdict.{Verdict}
 use Rattle.fx_verdicts.specs.declared.verdict.Verdict.TheVariants.{Exited, Denied, StackFull, Divide, BadThread, ThreadsFull, Invalid, Protection, Aborted, Page, Spent, DeviceFault, ReadFault, WriteFault, OutOfMemory}
-use Rattle.fx_run_words.specs.Words.{RunGiven, run_words}
+use Rattle.std.specs.Prelude.{◌&&◌, bytes_eq}
+use Rattle.std.proofs.lemmas.Slice.Eq.{bytes_eq-Decides}
+use Rattle.fx_run_words.specs.Words.{RunGiven, ExecGiven, is_file_name, run_words, exec_words}
+use Rattle.fx_run_command.proofs.Statuses.{reports_usage}
+use Rattle.fx_exec_command.specs.Does.{DoesExec}
 use Rattle.fx_run_command.specs.Comes.{Streams, Ran, Comes}
-use Rattle.fx_run_command.specs.Lines.{came_status, unbegun_status}
+use Rattle.fx_run_command.specs.Lines.{unbegun_status}
 use Rattle.fx_run_command.specs.Reports.{Reports, Does}
 use Rattle.fx_run_command.specs.declared.command.Finished.{Finished}
 use Rattle.fx_run_command.specs.declared.load.Unbegun.{Unbegun}
@@ -63,45 +67,20 @@ done_run words given boxes before after result told printed quiet loud run does 
     came_done words given boxes before after result told printed quiet loud does.came run does.comes does.reports zero_status
 
 -- a run isn't usage
-verdict_usage : (verdict : Verdict) → status_of verdict ≡ 2 → ⊥
-verdict_usage (Exited value turns) status = omega arith
-verdict_usage (Denied domain place write) status = omega arith
-verdict_usage (StackFull thread stack) status = omega arith
-verdict_usage Divide status = omega arith
-verdict_usage BadThread status = omega arith
-verdict_usage ThreadsFull status = omega arith
-verdict_usage Invalid status = omega arith
-verdict_usage Protection status = omega arith
-verdict_usage Aborted status = omega arith
-verdict_usage (Page address) status = omega arith
-verdict_usage (Spent turns) status = omega arith
-verdict_usage (DeviceFault device) status = omega arith
-verdict_usage ReadFault status = omega arith
-verdict_usage WriteFault status = omega arith
-verdict_usage OutOfMemory status = omega arith
-
-unbegun_usage : (why : Unbegun) → unbegun_status why ≡ 2 → ⊥
-unbegun_usage (unbegun.Unread file error) status = omega arith
-unbegun_usage (unbegun.Refused error) status = omega arith
-unbegun_usage unbegun.OutOfMemory status = omega arith
-
-came_usage : (came : Result Finished Unbegun) → came_status came ≡ 2 → ⊥
-came_usage (Ok done) status = verdict_usage done.verdict status
-came_usage (Err why) status = unbegun_usage why status
-
-reports_usage : (given : RunGiven) (came : Result Finished Unbegun) (result : ℕ) (told printed : Option (List ℕ)) (quiet loud : ℕ) → Reports given came result told printed quiet loud → result ≡ 2 → ⊥
-reports_usage given came result told printed quiet loud (inl (inl own)) two = came_usage came (sym own.0 ∙ two)
-reports_usage given came result told printed quiet loud (inl (inr fault)) two = omega (arith, fault.0)
-reports_usage given came result told printed quiet loud (inr (inl memory)) two = omega (arith, memory.0)
-reports_usage given came result told printed quiet loud (inr (inr fault)) two = omega (arith, fault.0)
-
 pub run_is_no_usage : (given : RunGiven) (boxes : List (Option Meaning)) (before after : Streams) (result : ℕ) (told printed : Option (List ℕ)) (quiet loud : ℕ)
     → Does given boxes before after result told printed quiet loud → result ≡ 2 → ⊥
 run_is_no_usage given boxes before after result told printed quiet loud does two = reports_usage given does.came result told printed quiet loud does.reports two
 
 -- words are one command alone
-pub exec_is_no_run : (words : List (List ℕ)) (config image : List ℕ) → IsExec words config image → run_words words ≡ None
-exec_is_no_run words config image exec = ap run_words exec.0
+exec_by : (command config : List ℕ) (rest : List (List ℕ)) (found : Option ExecGiven) (given : ExecGiven) (is_it named : Bool) → bytes_eq command (codes "exec") ≡ is_it → cond (is_it && named) found None ≡ Some given
+    → run_words (command ∷ config ∷ rest) ≡ None
+exec_by command config rest found given true named is some = ap (λ (c : List ℕ). run_words (c ∷ config ∷ rest)) ((bytes_eq-Decides _ _).0 is)
+exec_by command config rest found given false named is some = cc
+
+pub exec_is_no_run : (words : List (List ℕ)) (given : ExecGiven) → IsExec words given → run_words words ≡ None
+exec_is_no_run [] given exec = cc
+exec_is_no_run (command ∷ []) given exec = cc
+exec_is_no_run (command ∷ config ∷ rest) given exec = exec_by command config rest _ given (bytes_eq command (codes "exec")) (is_file_name config) refl exec
 
 no_two : {A P : Type 0} (x : A) → Some x ≡ None → P
 no_two {A} x e = absurd (cc_some e) where
@@ -121,3 +100,19 @@ one_value a b e = cc
 
 pub same_given : (words : List (List ℕ)) (a b : RunGiven) → IsRun words a → IsRun words b → a ≡ b
 same_given words a b p q = one_value a b (sym p ∙ q)
+
+-- they say one `exec` alone
+one_exec : (a b : ExecGiven) → ◌≡◌ {A = Option ExecGiven} (Some a) (Some b) → a ≡ b
+one_exec a b e = cc
+
+pub same_exec : (words : List (List ℕ)) (a b : ExecGiven) → IsExec words a → IsExec words b → a ≡ b
+same_exec words a b p q = one_exec a b (sym p ∙ q)
+
+pub no_exec : {P : Type 0} (words : List (List ℕ)) (given : ExecGiven) → exec_words words ≡ None → IsExec words given → P
+no_exec words given none some = no_two given (sym some ∙ none)
+
+-- what came of the words' options came of those that the words name
+pub does_exec : (words : List (List ℕ)) (given other : ExecGiven) (boxes : List (Option Meaning)) (before after : Streams) (result : ℕ) (told printed : Option (List ℕ)) (quiet loud : ℕ) → IsExec words given → IsExec words other
+    → DoesExec given boxes before after result told printed quiet loud → DoesExec other boxes before after result told printed quiet loud
+does_exec words given other boxes before after result told printed quiet loud exec named does =
+    subst (λ (e : ExecGiven). DoesExec e boxes before after result told printed quiet loud) (same_exec words given other exec named) does

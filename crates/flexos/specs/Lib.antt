@@ -1,8 +1,4 @@
 pub mod Words
-pub mod Lines
-pub mod Causes
-pub mod Reports
-pub mod Plays
-pub mod Comes
+pub mod Execs
 pub mod Runs
 pub mod Places

@@ -1,21 +1,9 @@
 //! The words of a command.
 
 ghost use Rattle.std.specs.Prelude.{◌≡◌, map, MatchOption, string_bytes};
-ghost use Rattle.flexos.specs.Words.{IsExec, IsNoExec, IsPlace, IsNoPlace, IsUsage, IsCommand};
-ghost use Rattle.flexos.specs.Lines.{name_of};
+ghost use Rattle.flexos.specs.Words.{IsPlace, IsNoPlace, IsUsage, IsCommand};
 
-use crate::came::Which;
-use fx_run_words::words::{RunWords, is_file_name};
-
-/// The name of the source.
-pub const SOURCE: &str = "a.c";
-
-/// The command `exec CONF IMAGE`: builds the image of CONF's source, writes it and runs it.
-#[derive(Clone, Copy, Debug)]
-pub struct Exec<'a> {
-    pub config: &'a str,
-    pub image: &'a str,
-}
+use fx_run_words::words::{ExecWords, RunWords, is_file_name};
 
 /// The command `place CONF`: puts the placement of the program of CONF's sources.
 #[derive(Clone, Copy, Debug)]
@@ -26,26 +14,9 @@ pub struct Place<'a> {
 /// A command.
 #[derive(Clone, Copy, Debug)]
 pub enum Command<'a> {
-    Exec(Exec<'a>),
+    Exec(ExecWords<'a>),
     Run(RunWords<'a>),
     Place(Place<'a>),
-}
-
-/// The command `exec` that the words are.
-fn exec_of(words: &[String]) -> Option<Exec<'_>>
-    ensures { MatchOption result (IsNoExec (map string_bytes words.now)) (λ exec. IsExec (map string_bytes words.now) exec.config.now exec.image.now) }
-{
-    if words.len() != 3 {
-        return None;
-    }
-    let command = words[0].as_str();
-    let config = words[1].as_str();
-    let image = words[2].as_str();
-    if command == "exec" && is_file_name(config) && is_file_name(image) {
-        Some(Exec { config, image })
-    } else {
-        None
-    }
 }
 
 /// The command `place` that the words are.
@@ -68,7 +39,7 @@ fn place_of(words: &[String]) -> Option<Place<'_>>
 pub fn command_of(words: &[String]) -> Option<Command<'_>>
     ensures { MatchOption result (IsUsage (map string_bytes words.now)) (IsCommand (map string_bytes words.now)) }
 {
-    match exec_of(words) {
+    match ExecWords::of(words) {
         Some(exec) => Some(Command::Exec(exec)),
         None => match RunWords::of(words) {
             Some(run) => Some(Command::Run(run)),
@@ -77,18 +48,5 @@ pub fn command_of(words: &[String]) -> Option<Command<'_>>
                 None => None,
             },
         },
-    }
-}
-
-impl Exec<'_> {
-    /// The name of one of the command's files.
-    pub fn name(&self, which: Which) -> &str
-        ensures { result.now ≡ name_of self.now.config.now self.now.image.now which }
-    {
-        match which {
-            Which::Config => self.config,
-            Which::Source => SOURCE,
-            Which::Image => self.image,
-        }
     }
 }

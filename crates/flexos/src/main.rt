@@ -2,12 +2,7 @@
 #![tactic(auto)]
 
 mod adapters;
-mod came;
 mod command;
-mod image;
-mod inputs;
-mod play;
-mod report;
 #[cfg(test)]
 mod tests;
 mod top;

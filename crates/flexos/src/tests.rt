@@ -1,8 +1,8 @@
 //! The top call over files and streams in memory: what each command answers, writes and prints.
 
-use crate::inputs::EARLY_DOCUMENT;
 use crate::top::flexos;
 use fx_base::{MemFiles, MemSink, MemSource};
+use fx_exec_command::inputs::EARLY_DOCUMENT;
 use std::alloc::{AllocError, Global};
 use std::test::Fail;
 
@@ -94,6 +94,32 @@ fn programs_run_and_print(rt: HostRuntime) -> Result<(), Fail> {
 }
 
 #[test]
+fn runs_of_exec_take_options(rt: HostRuntime) -> Result<(), Fail> {
+    let cases: [(&str, u8, &[u8], &str); 5] = [
+        ("--steps 3", 8, b"", "steps spent: 3\n"),
+        ("--schedule s --steps 9", 0, b"H", "exit 0 in 9 turns\n"),
+        ("--schedule out.img", 0, b"H", "exit 0 in 9 turns\n"),
+        ("--schedule t", 4, b"", "no file: t\n"),
+        ("--unplug 2 0 --steps 8", 8, b"H", "steps spent: 8\n"),
+    ];
+    for (options, status, output, line) in cases {
+        let files: [(&str, &[u8]); 3] = [
+            ("conf.toml", EARLY_DOCUMENT.as_bytes()),
+            ("a.c", b"void main() { __putc(72); }"),
+            ("s", &[1, 255, 0, 7, 2, 2]),
+        ];
+        let text = format!(in rt.alloc(); "{EXEC} {options}")?;
+        let left = command(rt.alloc(), text.as_str(), &files, 0, 2000)?;
+        assert_eq!(rt; left.status, status, "{options}");
+        assert_eq!(rt; left.out.bytes(), output, "{options}");
+        assert_eq!(rt; left.err.bytes(), line.as_bytes(), "{options}");
+        let image = left.files.get("out.img").ok_or("no image")?;
+        assert!(rt; image.starts_with(b"FXIM"), "{options}");
+    }
+    Ok(())
+}
+
+#[test]
 fn images_are_run_again(rt: HostRuntime) -> Result<(), Fail> {
     let alloc = rt.alloc();
     let Left { mut files, .. } = exec(alloc, b"void main() { __putc(72); }")?;
@@ -157,6 +183,10 @@ fn other_words_are_usage(rt: HostRuntime) -> Result<(), Fail> {
         "exec -x out.img",
         "exec conf.toml -out",
         "exec conf.toml out.img more",
+        "exec conf.toml out.img --steps",
+        "exec conf.toml out.img --steps 1 --steps 2",
+        "exec conf.toml out.img --unplug 0 1",
+        "exec conf.toml --steps 1 out.img",
         "Exec conf.toml out.img",
         "place",
         "place -x",

@@ -1,48 +1,37 @@
-//! The top call: reads, builds, writes and runs, and reports.
+//! The top call: reads the words, and does what they say.
 
 ghost use Rattle.std.specs.Prelude.{◌≡◌, ◌≤◌, ℕ, List, length, map, option_map, string_bytes, codes, ◌⊎◌};
 ghost use Rattle.fx_base.specs.Told.{Told};
 ghost use Rattle.fx_base.specs.Files.{SameFiles};
 ghost use Rattle.fx_device.specs.Bus.{plugged};
-ghost use Rattle.fx_run_words.specs.Words.{RunGiven};
+ghost use Rattle.fx_placing.specs.Placing.{TookNothing};
+ghost use Rattle.fx_run_words.specs.Words.{RunGiven, ExecGiven};
 ghost use Rattle.fx_run_command.specs.Reports.{Ended, Does};
+ghost use Rattle.fx_exec_command.specs.Does.{DoesExec};
 ghost use Rattle.flexos.specs.Words.{IsExec, IsRun, IsPlace, IsUsage};
-ghost use Rattle.flexos.specs.Reports.{Reports};
+ghost use Rattle.flexos.specs.Execs.{DoneWords};
 ghost use Rattle.flexos.specs.Runs.{DoneRun};
 ghost use Rattle.flexos.specs.Places.{DoesPlace, DonePlace};
-ghost use Rattle.flexos.specs.Plays.{IsOf, Plays};
-ghost use Rattle.flexos.specs.Comes.{Comes, TookNothing, Done};
 
-use crate::came::Came;
-use crate::command::{Command, Exec, command_of};
-use crate::image::build_image;
-use crate::play::start;
-use crate::report::{report, report_usage};
+use crate::command::{Command, command_of};
 use fx_base::{Files, Sink, Source};
 use fx_device::Device;
+use fx_exec_command::report::exec_command;
 use fx_place_command::place_command;
-use fx_run_command::report::run_command;
+use fx_run_command::report::{conclude, run_command};
 use std::alloc::Global;
 
-/// Builds, writes and runs.
-fn perform<F: Files, O: Sink>(alloc: Global, files: &mut F, exec: &Exec<'_>, out: &mut O) -> Came
-    ensures { Comes exec.now.config.now exec.now.image.now (F.held files.old) (F.held files.new) (F.faults files.old) (F.faults files.new)
-        (O.taken out.old) (O.taken out.new) (O.faults out.old) (O.faults out.new) result }
-{
-    match build_image(alloc, files, exec) {
-        Ok(image) => start(alloc, &image, out),
-        Err(came) => came,
-    }
-}
+/// The line of words that are no command.
+const USAGE_LINE: &str = "usage\n";
 
 /// Does what the words say, and answers the status.
 ///
 /// `exec CONF IMAGE` reads CONF, of at most 16,777,216 bytes, and then `a.c`, of at most 1,048,576; builds the
-/// image of `a.c`, writes it under IMAGE and runs it for at most 50,000,000 turns, with its output to `out`. CONF
-/// must be the one document that is taken, and `a.c` a source of constant output.
+/// image of `a.c`, writes it under IMAGE, and runs what was built as `run` does, with its options. CONF must be
+/// the one document that is taken, and `a.c` a source of constant output.
 ///
 /// `run IMAGE` reads IMAGE and runs it with these devices, at most fifteen: the i-th, from 0, is device i + 1.
-/// The options, each at most once and in any order, are `--steps N` (N turns in place of 50,000,000),
+/// The options of both, each at most once and in any order, are `--steps N` (N turns in place of 50,000,000),
 /// `--schedule FILE` (turn i is the vCPU's that byte i of FILE names, and then that of the number i less their
 /// count) and `--unplug D N` (device D is unplugged as soon as N operations of it were made). Both files have at
 /// most 16,777,216 bytes.
@@ -67,8 +56,10 @@ pub fn flexos<F: Files, I: Source, O: Sink, E: Sink>(
     requires { length devices.items ≤ 15 }
     // Status 0: `exec` wrote an image that is faithful to the source read, and the output took the source's
     // constants; or the run of the image read ended by Exit; or `place` put the placement.
-    ensures done { result ≡ 0 → Done (map string_bytes words.now) (F.held files.old) (F.held files.new)
-        (O.taken out.old) (O.taken out.new) (E.taken err.old) (E.taken err.new)
+    ensures done { result ≡ 0 → DoneWords (map string_bytes words.now) (map (option_map (λ d. (⟦<dyn Device as Device>⟧ d.vtable).meaning d.value)) (plugged 15 devices.items))
+        (record { held = F.held files.old; file_faults = F.faults files.old; left = I.left input.old; input_faults = I.faults input.old; taken = O.taken out.old; output_faults = O.faults out.old })
+        (record { held = F.held files.new; file_faults = F.faults files.new; left = I.left input.new; input_faults = I.faults input.new; taken = O.taken out.new; output_faults = O.faults out.new })
+        (E.taken err.old) (E.taken err.new)
         ⊎ DoneRun (map string_bytes words.now) (map (option_map (λ d. (⟦<dyn Device as Device>⟧ d.vtable).meaning d.value)) (plugged 15 devices.items))
         (record { held = F.held files.old; file_faults = F.faults files.old; left = I.left input.old; input_faults = I.faults input.old; taken = O.taken out.old; output_faults = O.faults out.old })
         (record { held = F.held files.new; file_faults = F.faults files.new; left = I.left input.new; input_faults = I.faults input.new; taken = O.taken out.new; output_faults = O.faults out.new })
@@ -80,11 +71,13 @@ pub fn flexos<F: Files, I: Source, O: Sink, E: Sink>(
     ensures usage { IsUsage (map string_bytes words.now) →
         Ended 2 (codes "usage\n") result (E.taken err.old) (E.taken err.new) (E.faults err.old) (E.faults err.new)
         × Told SameFiles (F.held files.old) (F.held files.new) × Told TookNothing (O.taken out.old) (O.taken out.new) }
-    // `exec`: what it came to, each answer with its cause, and the line and status of that.
-    ensures exec { (config image : List ℕ) → IsExec (map string_bytes words.now) config image → (came : Came)
-        × Comes config image (F.held files.old) (F.held files.new) (F.faults files.old) (F.faults files.new)
-        (O.taken out.old) (O.taken out.new) (O.faults out.old) (O.faults out.new) came
-        × Reports config image came result (E.taken err.old) (E.taken err.new) (E.faults err.old) (E.faults err.new) }
+    // `exec`: it builds the image, writes it, and does what Run does on what was built; each answer has its
+    // cause, and the line and status are those of what it came to.
+    ensures exec { (given : ExecGiven) → IsExec (map string_bytes words.now) given →
+        DoesExec given (map (option_map (λ d. (⟦<dyn Device as Device>⟧ d.vtable).meaning d.value)) (plugged 15 devices.items))
+        (record { held = F.held files.old; file_faults = F.faults files.old; left = I.left input.old; input_faults = I.faults input.old; taken = O.taken out.old; output_faults = O.faults out.old })
+        (record { held = F.held files.new; file_faults = F.faults files.new; left = I.left input.new; input_faults = I.faults input.new; taken = O.taken out.new; output_faults = O.faults out.new })
+        result (E.taken err.old) (E.taken err.new) (E.faults err.old) (E.faults err.new) }
     // `run`: it does what Run does on the bytes read, each answer has its cause, and the line and status are
     // those of what it came to. No file is changed.
     ensures run { (given : RunGiven) → IsRun (map string_bytes words.now) given →
@@ -100,13 +93,10 @@ pub fn flexos<F: Files, I: Source, O: Sink, E: Sink>(
         result (E.taken err.old) (E.taken err.new) (E.faults err.old) (E.faults err.new) }
 {
     let Some(command) = command_of(words) else {
-        return report_usage(err);
+        return conclude(err, 2, USAGE_LINE.as_bytes());
     };
     match command {
-        Command::Exec(exec) => {
-            let came = perform(alloc, files, &exec, out);
-            report(alloc, err, &exec, came)
-        }
+        Command::Exec(given) => exec_command(alloc, &given, files, input, out, err, devices),
         Command::Run(given) => run_command(alloc, &given, files, input, out, err, devices),
         Command::Place(place) => place_command(alloc, place.config, files, out, err),
     }

@@ -1,20 +1,55 @@
-use Rattle.std.proofs.Common.{map, string_bytes, inl, inr, subst}
-use Rattle.fx_run_words.specs.Views.{run_given}
+use Rattle.std.proofs.Common.{map, string_bytes, inl, inr, subst, sym}
+use Rattle.fx_run_words.specs.Views.{run_given, exec_given}
 use Rattle.flexos.specs.Words.{IsExec, IsCommand}
 use Rattle.flexos.specs.declared.command.Command.{Command}
-use Rattle.flexos.proofs.Coming.{done}
-use Rattle.flexos.proofs.Running.{done_run}
-use Rattle.flexos.proofs.Placed.{done_place, does_place}
+use Rattle.flexos.proofs.Running.{done_run, exec_is_no_run, no_run, no_exec, does_exec}
+use Rattle.flexos.proofs.Placed.{done_place, does_place, place_is_no_exec}
 use Rattle.flexos.proofs.top.flexos.Goals as goal
 
 pub returns-in-Exec-clause-done : goal.returns-in-Exec-clause-done
 returns-in-Exec-clause-done g c = λ zero_status.
     let words = map string_bytes c.args.words.now in
-    let is_exec : IsExec words c.in-Exec.exec.config.now c.in-Exec.exec.image.now = subst (λ (command : Command). IsCommand words command) c.in-Exec.is c.in-Some.ensures in
-    inl (done words c.in-Exec.exec.config.now c.in-Exec.exec.image.now (g.F.Files.held c.args.files.now) (g.F.Files.held c.perform-came.new.files)
-    (g.F.Files.faults c.args.files.now) (g.F.Files.faults c.perform-came.new.files) (g.O.Sink.taken c.args.out.now) (g.O.Sink.taken c.perform-came.new.out) (g.E.Sink.taken c.args.err.now) (g.E.Sink.taken c.report.new.err)
-    (g.O.Sink.faults c.args.out.now) (g.O.Sink.faults c.perform-came.new.out) (g.E.Sink.faults c.args.err.now) (g.E.Sink.faults c.report.new.err) c.report.result c.perform-came.result
-    is_exec c.perform-came.ensures c.report.ensures zero_status)
+    let is_exec : IsExec words (exec_given c.in-Exec.given) = subst (λ (command : Command). IsCommand words command) c.in-Exec.is c.in-Some.ensures in
+    inl (record { given = exec_given c.in-Exec.given; exec = is_exec; done = c.exec_command.ensures.done zero_status })
+
+pub returns-in-Exec-clause-words : goal.returns-in-Exec-clause-words
+returns-in-Exec-clause-words g c = λ two. absurd (c.exec_command.ensures.named two)
+
+pub returns-in-Exec-clause-usage : goal.returns-in-Exec-clause-usage
+returns-in-Exec-clause-usage g c = λ usage.
+    let words = map string_bytes c.args.words.now in
+    let is_exec : IsExec words (exec_given c.in-Exec.given) = subst (λ (command : Command). IsCommand words command) c.in-Exec.is c.in-Some.ensures in
+    no_exec words (exec_given c.in-Exec.given) usage.0 is_exec
+
+pub returns-in-Exec-clause-exec : goal.returns-in-Exec-clause-exec
+returns-in-Exec-clause-exec g c = λ given named.
+    let words = map string_bytes c.args.words.now in
+    let is_exec : IsExec words (exec_given c.in-Exec.given) = subst (λ (command : Command). IsCommand words command) c.in-Exec.is c.in-Some.ensures in
+    does_exec words (exec_given c.in-Exec.given) given _ _ _ _ _ _ _ _ is_exec named c.exec_command.ensures.does
+
+pub returns-in-Exec-clause-run : goal.returns-in-Exec-clause-run
+returns-in-Exec-clause-run g c = λ given named.
+    let words = map string_bytes c.args.words.now in
+    let is_exec : IsExec words (exec_given c.in-Exec.given) = subst (λ (command : Command). IsCommand words command) c.in-Exec.is c.in-Some.ensures in
+    no_run words given (exec_is_no_run words (exec_given c.in-Exec.given) is_exec) named
+
+pub returns-in-Exec-clause-place : goal.returns-in-Exec-clause-place
+returns-in-Exec-clause-place g c = λ config named.
+    let words = map string_bytes c.args.words.now in
+    let is_exec : IsExec words (exec_given c.in-Exec.given) = subst (λ (command : Command). IsCommand words command) c.in-Exec.is c.in-Some.ensures in
+    no_exec words (exec_given c.in-Exec.given) (place_is_no_exec words config named) is_exec
+
+pub returns-in-Run-clause-exec : goal.returns-in-Run-clause-exec
+returns-in-Run-clause-exec g c = λ given named.
+    let words = map string_bytes c.args.words.now in
+    let is_run = subst (λ (command : Command). IsCommand words command) c.in-Run.is c.in-Some.ensures in
+    no_exec words given is_run.0 named
+
+pub returns-in-Place-clause-exec : goal.returns-in-Place-clause-exec
+returns-in-Place-clause-exec g c = λ given named.
+    let words = map string_bytes c.args.words.now in
+    let is_place = subst (λ (command : Command). IsCommand words command) c.in-Place.is c.in-Some.ensures in
+    no_exec words given is_place.0 named
 
 pub returns-in-Run-clause-done : goal.returns-in-Run-clause-done
 returns-in-Run-clause-done g c = λ zero_status.
