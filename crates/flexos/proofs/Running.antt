@@ -74,7 +74,7 @@ run_is_no_usage given boxes before after result told printed quiet loud does two
 -- words are one command alone
 exec_by : (command config : List ℕ) (rest : List (List ℕ)) (found : Option ExecGiven) (given : ExecGiven) (is_it named : Bool) → bytes_eq command (codes "exec") ≡ is_it → cond (is_it && named) found None ≡ Some given
     → run_words (command ∷ config ∷ rest) ≡ None
-exec_by command config rest found given true named is some = ap (λ (c : List ℕ). run_words (c ∷ config ∷ rest)) ((bytes_eq-Decides _ _).0 is)
+exec_by command config rest found given true named is some = ap {A = List ℕ} {B = Option RunGiven} (λ (c : List ℕ). run_words (c ∷ config ∷ rest)) ((bytes_eq-Decides command (codes "exec")).0 is)
 exec_by command config rest found given false named is some = cc
 
 pub exec_is_no_run : (words : List (List ℕ)) (given : ExecGiven) → IsExec words given → run_words words ≡ None
