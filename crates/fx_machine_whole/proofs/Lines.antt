@@ -1,5 +1,5 @@
 -- An instruction that was decoded at its place of the code is what a fetch there finds.
-use Rattle.std.proofs.Common.{◌≡◌, ℕ, ◌+◌, ◌-◌, ◌%◌, ◌^◌, ◌<◌, ◌≤◌, [], length, drop, get_or, Option, None, Some, sym, ap, ◌∙◌, subst, arith, length-drop}
+use Rattle.std.proofs.Common.{◌≡◌, ℕ, ◌+◌, ◌-◌, ◌%◌, ◌^◌, ◌<◌, ◌≤◌, [], length, drop, get_or, false, Option, None, Some, sym, ap, ◌∙◌, subst, arith, length-drop}
 use Rattle.std.proofs.lemmas.List.{get_or-drop, get_or-take, length-take-le}
 use Rattle.fx_x64_forms.specs.declared.inst.Inst.{Inst}
 use Rattle.fx_x64_code.specs.Spelling.{spelling}
@@ -13,12 +13,14 @@ use Rattle.fx_vm_pages.specs.declared.access.Access.TheVariants.{Fetch}
 use Rattle.fx_cpu.specs.Memory.{on}
 use Rattle.fx_image.specs.Layout.{code_start}
 use Rattle.fx_image.specs.declared.forms.Image.{Image}
+use Rattle.fx_machine.specs.Layout.{is_ept, page_entry}
 use Rattle.fx_machine.specs.Boot.{boot_byte}
 use Rattle.fx_machine.specs.Moves.{fetched}
 use Rattle.fx_machine.specs.declared.fetched.Fetched.TheVariants.{Found}
 use Rattle.fx_machine.proofs.Checks.{first_free}
 use Rattle.fx_machine.proofs.Pages.{Fits}
 use Rattle.fx_machine.proofs.Fetching.{fetched_spelling}
+use Rattle.fx_machine.proofs.Regions.{fetch_code}
 use Rattle.fx_machine.proofs.Standing.{HoldsCode}
 use Rattle.fx_machine.proofs.Placing.{boot_code}
 use Rattle.fx_machine_whole.specs.Memory.{memory_of}
@@ -61,6 +63,31 @@ module _ (image : Image) (entries : ℕ → Option Entry) (pkru : Pkru) (memory 
       let place : on rip k ≡ code_start + (at + k) = omega arith in
       ap memory place ∙ holds.code (at + k) (omega arith)
       ∙ sym (get_or-drop at image.code k 0) ∙ sym (get_or-take len (drop at image.code) k 0 (omega arith)) ∙ ap (λ l. get_or l k 0) s.0.1)
+      ∙ ap (Found i) n
+
+-- where there is one address space, it maps all code, and nothing refuses a fetch there
+module _ (image : Image) (vcpu : ℕ) (pkru : Pkru) (memory : ℕ → ℕ) (rip : ℕ) (i : Inst) (len : ℕ)
+    (f : Fits image) (holds : HoldsCode image memory) (from : code_start ≤ rip) (is : decoded (drop (rip - code_start) image.code) ≡ Some (i, len))
+    (one : is_ept image ≡ false) where
+  abbrev place : ℕ
+  place = rip - code_start
+
+  pub line_mapped : fetched (page_entry image vcpu) pkru memory rip 15 [] ≡ Found i len
+  line_mapped =
+      let c = f.code in
+      let s = decoded_is_spelled (drop place image.code) i len is in
+      let n : length (spelling i) ≡ len = ap length (sym s.0.1) ∙ length-take-le len (drop place image.code) s.1 in
+      let size = length-drop place image.code in
+      let some = spelling_lengths i s.0.0 in
+      let within : place + len ≤ length image.code = omega arith in
+      fetched_spelling (page_entry image vcpu) pkru memory rip i s.0.0
+      (λ k lt.
+      let there : on rip k ≡ code_start + (place + k) = omega arith in
+      ap (λ a. access_check (page_entry image vcpu) pkru Fetch a 1) there ∙ fetch_code image vcpu pkru (place + k) f one (omega arith))
+      (λ k lt.
+      let there : on rip k ≡ code_start + (place + k) = omega arith in
+      ap memory there ∙ holds.code (place + k) (omega arith)
+      ∙ sym (get_or-drop place image.code k 0) ∙ sym (get_or-take len (drop place image.code) k 0 (omega arith)) ∙ ap (λ l. get_or l k 0) s.0.1)
       ∙ ap (Found i) n
 
 -- what a line says

@@ -1,8 +1,8 @@
 //! What one instruction does to registers and memory.
 
 ghost use Rattle.std.specs.Prelude.{◌≡◌, ◌≢◌, ◌+◌, ◌<◌, false, None, IfSome, IsTrue, length};
-ghost use Rattle.fx_cpu.specs.Registers.{past};
-ghost use Rattle.fx_cpu.specs.Does.{need, finish};
+ghost use Rattle.fx_cpu.specs.Registers.{past, reg};
+ghost use Rattle.fx_cpu.specs.Does.{need, finish, alu, kept};
 ghost use Rattle.fx_image.specs.Rules.{IsImage};
 ghost use Rattle.fx_machine.specs.Moves.{holder, domain_of, trapped, refused, operation, perform, move};
 ghost use Rattle.fx_machine_whole.specs.Acting.{world, ActsBy, Accesses};
@@ -19,7 +19,7 @@ use crate::pages::Pages;
 use fx_base::DeviceOp;
 use fx_cpu::finish::complete;
 use fx_cpu::need::{Need, need_of};
-use fx_cpu::registers::Regs;
+use fx_cpu::registers::{Regs, down, is_held, up};
 use fx_cpu::trap::Trap;
 use fx_image::{Comp, Image};
 use fx_machine::fetched::Fetched;
@@ -27,8 +27,9 @@ use fx_machine::layout::is_keyed;
 use fx_machine::stop::Stop;
 use fx_vm_pages::access::{Access, Refusal};
 use fx_vm_pages::entry::Pkru;
-use fx_word_ops::words::zero_extend;
-use fx_x64_forms::inst::Inst;
+use fx_word_ops::flags::{Flags, LogicOp};
+use fx_word_ops::sums::{add, logic, sub};
+use fx_x64_forms::inst::{AluOp, Inst};
 use fx_x64_forms::operand::{Reg, Width};
 
 /// What came of an instruction.
@@ -312,9 +313,75 @@ pub fn instruct(
     }
 }
 
+/// Reads a word, if it is in memory in one page and may be read.
+#[inline(always)]
+fn load(
+    image: &Image,
+    pages: &mut Pages,
+    memory: &Memory,
+    vcpu: u8,
+    pkru: Pkru,
+    width: Width,
+    address: u64,
+) -> Option<u64>
+    requires whole { IsImage image.now }
+    requires few { vcpu < 16 }
+    requires agree { Agrees image.now pages.old }
+    ensures made { IfSome result (λ value. Accesses image.now vcpu pkru (memory_of image.now memory.now) (Need.Reads width address) value (memory_of image.now memory.now)) }
+    ensures agree { Agrees image.now pages.new }
+{
+    if !is_memory(
+        pages,
+        image,
+        vcpu,
+        pkru,
+        Access::Read,
+        address,
+        width.bytes(),
+    ) {
+        return None;
+    }
+    Some(memory.word_at(image, width, address))
+}
+
+/// Stores a word, if its place is in memory in one page and may be written, and answers whether it did.
+#[inline(always)]
+fn store(
+    image: &Image,
+    pages: &mut Pages,
+    memory: &mut Memory,
+    vcpu: u8,
+    pkru: Pkru,
+    width: Width,
+    address: u64,
+    value: u64,
+) -> bool
+    requires whole { IsImage image.now }
+    requires few { vcpu < 16 }
+    requires agree { Agrees image.now pages.old }
+    requires laid { IsLaidOut image.now memory.old }
+    ensures made { IsTrue result → Accesses image.now vcpu pkru (memory_of image.now memory.old) (Need.Writes width address value) 0 (memory_of image.now memory.new) }
+    ensures kept { result ≡ false → memory.new ≡ memory.old }
+    ensures agree { Agrees image.now pages.new }
+    ensures laid { IsLaidOut image.now memory.new }
+{
+    if !is_memory(
+        pages,
+        image,
+        vcpu,
+        pkru,
+        Access::Write,
+        address,
+        width.bytes(),
+    ) {
+        return false;
+    }
+    memory.store(width, address, value);
+    true
+}
+
 /// Makes an access, if it is to memory in one page and permitted, and gives what was read, 0 where nothing
 /// was. Where it gives nothing, nothing has changed.
-#[inline(always)]
 fn access(
     image: &Image,
     pages: &mut Pages,
@@ -334,54 +401,21 @@ fn access(
 {
     match need {
         Need::Quiet => Some(0),
-        Need::Reads { w, address } => {
-            if !is_memory(pages, image, vcpu, pkru, Access::Read, address, w.bytes()) {
-                return None;
-            }
-            Some(memory.word_at(image, w, address))
-        }
+        Need::Reads { w, address } => load(image, pages, memory, vcpu, pkru, w, address),
         Need::Writes { w, address, value } => {
-            if !is_memory(pages, image, vcpu, pkru, Access::Write, address, w.bytes()) {
-                return None;
+            if store(image, pages, memory, vcpu, pkru, w, address, value) {
+                Some(0)
+            } else {
+                None
             }
-            memory.store(w, address, value);
-            Some(0)
         }
         Need::Stops(_) => None,
     }
 }
 
-/// What an instruction asks of memory, where `next` is the address of the one behind it: the common ones are
-/// told apart here, so that their answers stay in registers.
-#[inline(always)]
-fn asked(inst: &Inst, next: u64, r: &Regs) -> Need
-    ensures { result ≡ need inst.now (record r.now { rip = next }) }
-{
-    match *inst {
-        Inst::Load { w, mem, .. } => Need::Reads {
-            w,
-            address: r.address(mem),
-        },
-        Inst::Store { w, mem, src } => Need::Writes {
-            w,
-            address: r.address(mem),
-            value: zero_extend(w, r.get(src)),
-        },
-        Inst::Mov { .. }
-        | Inst::MovImm { .. }
-        | Inst::Lea { .. }
-        | Inst::Alu { .. }
-        | Inst::AluImm { .. }
-        | Inst::Setcc { .. }
-        | Inst::Jcc { .. }
-        | Inst::Jmp { .. } => Need::Quiet,
-        _ => need_of(inst, next, r),
-    }
-}
-
 /// Does an instruction of a length, if all that it asks for is an access to memory in one page, and
 /// answers whether it is done. Where it isn't, nothing has changed.
-#[inline(always)]
+#[inline(never)]
 fn perform_whole(
     image: &Image,
     pages: &mut Pages,
@@ -401,13 +435,225 @@ fn perform_whole(
     ensures agree { Agrees image.now pages.new }
     ensures laid { IsLaidOut image.now memory.new }
 {
-    let need = asked(inst, r.rip.wrapping_add(length), r);
+    let need = need_of(inst, r.rip.wrapping_add(length), r);
     match access(image, pages, memory, vcpu, r.pkru, need) {
         Some(value) => {
             finish(inst, length, r, value);
             true
         }
         None => false,
+    }
+}
+
+/// The result and the flags of an operation on words of 64 bits.
+#[inline(always)]
+fn alu_of(op: AluOp, a: u64, b: u64) -> (u64, Flags)
+    ensures { result ≡ alu op Width.W64 a b }
+{
+    match op {
+        AluOp::Add => add(Width::W64, a, b),
+        AluOp::Sub | AluOp::Cmp => sub(Width::W64, a, b),
+        AluOp::And | AluOp::Test => logic(Width::W64, LogicOp::And, a, b),
+        AluOp::Or => logic(Width::W64, LogicOp::Or, a, b),
+        AluOp::Xor => logic(Width::W64, LogicOp::Xor, a, b),
+    }
+}
+
+/// Does an operation of a register of 64 bits and a number.
+#[inline(always)]
+fn operate_on(op: AluOp, dst: Reg, b: u64, r: &mut Regs)
+    ensures { r.new ≡ kept op r.old dst (alu op Width.W64 (reg r.old dst) b) }
+{
+    let (value, flags) = alu_of(op, r.get(dst), b);
+    r.flags = flags;
+    match op {
+        AluOp::Cmp | AluOp::Test => {}
+        AluOp::Add | AluOp::Sub | AluOp::And | AluOp::Or | AluOp::Xor => r.set(dst, value),
+    }
+}
+
+/// Does an instruction of a length that is a common one and asks nothing of memory, and answers whether it
+/// is one. These are told apart here, so that each is one piece of code with what it is known to be.
+#[inline(always)]
+fn quiet(inst: &Inst, length: u64, r: &mut Regs) -> bool
+    ensures done { IsTrue result → (need inst.now (past r.old length) ≡ Need.Quiet) × (r.new ≡ finish inst.now (past r.old length) 0) }
+    ensures kept { result ≡ false → r.new ≡ r.old }
+{
+    let next = r.rip.wrapping_add(length);
+    match *inst {
+        Inst::Mov {
+            w: Width::W64,
+            dst,
+            src,
+        } => {
+            r.rip = next;
+            r.set(dst, r.get(src));
+        }
+        Inst::MovImm { dst, imm } => {
+            r.rip = next;
+            r.set(dst, i64::from(imm).cast_unsigned());
+        }
+        Inst::Lea { dst, mem } => {
+            r.rip = next;
+            r.set(dst, r.address(mem));
+        }
+        Inst::Alu {
+            op,
+            w: Width::W64,
+            dst,
+            src,
+        } => {
+            r.rip = next;
+            operate_on(op, dst, r.get(src), r);
+        }
+        Inst::AluImm {
+            op,
+            w: Width::W64,
+            dst,
+            imm,
+        } => {
+            r.rip = next;
+            operate_on(op, dst, i64::from(imm).cast_unsigned(), r);
+        }
+        Inst::Jcc { cond, rel } => {
+            r.rip = next;
+            if is_held(cond, r.flags) {
+                r.jump(rel);
+            }
+        }
+        Inst::Jmp { rel } => {
+            r.rip = next;
+            r.jump(rel);
+        }
+        _ => return false,
+    }
+    true
+}
+
+/// Does an instruction of a length, if it is a common one and its access, if it asks for one, is to memory in
+/// one page, and answers whether it is done. Where it isn't, nothing has changed.
+#[inline(always)]
+fn perform_common(
+    image: &Image,
+    pages: &mut Pages,
+    memory: &mut Memory,
+    vcpu: u8,
+    r: &mut Regs,
+    inst: &Inst,
+    length: u64,
+) -> bool
+    requires whole { IsImage image.now }
+    requires few { vcpu < 16 }
+    requires agree { Agrees image.now pages.old }
+    requires laid { IsLaidOut image.now memory.old }
+    ensures done { IsTrue result → ActsBy (λ answers. perform image.now vcpu inst.now length r.old (world (memory_of image.now memory.old) answers)) r.old (memory_of image.now memory.old) Act.Done r.new (memory_of image.now memory.new) }
+    ensures registers { result ≡ false → r.new ≡ r.old }
+    ensures memory { result ≡ false → memory.new ≡ memory.old }
+    ensures agree { Agrees image.now pages.new }
+    ensures laid { IsLaidOut image.now memory.new }
+{
+    let next = r.rip.wrapping_add(length);
+    match *inst {
+        Inst::Load {
+            w: Width::W64,
+            dst,
+            mem,
+        } => {
+            match load(
+                image,
+                pages,
+                memory,
+                vcpu,
+                r.pkru,
+                Width::W64,
+                r.address(mem),
+            ) {
+                Some(value) => {
+                    r.rip = next;
+                    r.set(dst, value);
+                    true
+                }
+                None => false,
+            }
+        }
+        Inst::Pop { reg } => match load(image, pages, memory, vcpu, r.pkru, Width::W64, r.gpr[4]) {
+            Some(value) => {
+                r.rip = next;
+                r.gpr[4] = up(r.gpr[4]);
+                r.set(reg, value);
+                true
+            }
+            None => false,
+        },
+        Inst::Store {
+            w: Width::W64,
+            mem,
+            src,
+        } => {
+            if store(
+                image,
+                pages,
+                memory,
+                vcpu,
+                r.pkru,
+                Width::W64,
+                r.address(mem),
+                r.get(src),
+            ) {
+                r.rip = next;
+                true
+            } else {
+                false
+            }
+        }
+        Inst::Push { reg } => {
+            if store(
+                image,
+                pages,
+                memory,
+                vcpu,
+                r.pkru,
+                Width::W64,
+                down(r.gpr[4]),
+                r.get(reg),
+            ) {
+                r.rip = next;
+                r.gpr[4] = down(r.gpr[4]);
+                true
+            } else {
+                false
+            }
+        }
+        _ => quiet(inst, length, r),
+    }
+}
+
+/// Does an instruction of a length, if all that it asks for is an access to memory in one page, and
+/// answers whether it is done. Where it isn't, nothing has changed. The common ones are tried first.
+#[inline(always)]
+fn perform_quick(
+    image: &Image,
+    pages: &mut Pages,
+    memory: &mut Memory,
+    vcpu: u8,
+    r: &mut Regs,
+    inst: &Inst,
+    length: u64,
+) -> bool
+    requires whole { IsImage image.now }
+    requires few { vcpu < 16 }
+    requires agree { Agrees image.now pages.old }
+    requires laid { IsLaidOut image.now memory.old }
+    ensures done { IsTrue result → ActsBy (λ answers. perform image.now vcpu inst.now length r.old (world (memory_of image.now memory.old) answers)) r.old (memory_of image.now memory.old) Act.Done r.new (memory_of image.now memory.new) }
+    ensures registers { result ≡ false → r.new ≡ r.old }
+    ensures memory { result ≡ false → memory.new ≡ memory.old }
+    ensures agree { Agrees image.now pages.new }
+    ensures laid { IsLaidOut image.now memory.new }
+{
+    if perform_common(image, pages, memory, vcpu, r, inst, length) {
+        true
+    } else {
+        perform_whole(image, pages, memory, vcpu, r, inst, length)
     }
 }
 
@@ -435,7 +681,7 @@ pub fn instruct_whole(
     ensures laid { IsLaidOut image.now memory.new }
 {
     match fetch_line(image, code, pages, vcpu, r) {
-        Some((inst, length)) => perform_whole(image, pages, memory, vcpu, r, inst, length),
+        Some((inst, length)) => perform_quick(image, pages, memory, vcpu, r, inst, length),
         None => false,
     }
 }

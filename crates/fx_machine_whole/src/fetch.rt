@@ -12,6 +12,7 @@ ghost use Rattle.fx_machine_whole.specs.declared.memory.Memory.{Memory};
 
 use crate::check::check_byte;
 use crate::code::{Code, Line};
+use crate::layout::is_ept;
 use crate::memory::Memory;
 use crate::pages::Pages;
 use fx_cpu::registers::Regs;
@@ -49,8 +50,8 @@ pub fn fetch(image: &Image, pages: &mut Pages, memory: &Memory, vcpu: u8, r: &Re
     Fetched::Unspelled
 }
 
-/// The instruction at RIP with its length, where it was decoded beforehand and stands in one page of code
-/// that the vCPU may fetch from.
+/// The instruction at RIP with its length, where it was decoded beforehand and the vCPU may fetch all of it:
+/// where there is one address space, it maps all code; else the instruction has to stand in one page.
 #[inline]
 pub fn fetch_line<'a>(
     image: &Image,
@@ -77,6 +78,9 @@ pub fn fetch_line<'a>(
         Line::Unspelled => return None,
         Line::Spelled { inst, length } => (inst, u64::from(*length)),
     };
+    if !is_ept(image) {
+        return Some((inst, length));
+    }
     if r.rip % 4096 + length > 4096 {
         return None;
     }

@@ -7,5 +7,5 @@ pub returns-in-Some-clause-done : goal.returns-in-Some-clause-done
 returns-in-Some-clause-done c =
     let image = c.args.image.now in
     λ t.
-    acts_found image c.args.vcpu c.args.r.now (memory_of image c.args.memory.now) c.in-Some.inst.now c.in-Some.length Done c.perform_whole.new.r (memory_of image c.perform_whole.new.memory)
-    (c.in-Some.ensures.value c.args.memory.now) (c.perform_whole.ensures.done t)
+    acts_found image c.args.vcpu c.args.r.now (memory_of image c.args.memory.now) c.in-Some.inst.now c.in-Some.length Done c.perform_quick.new.r (memory_of image c.perform_quick.new.memory)
+    (c.in-Some.ensures.value c.args.memory.now) (c.perform_quick.ensures.done t)
