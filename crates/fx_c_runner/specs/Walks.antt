@@ -1,5 +1,5 @@
 -- What a step of the runner may answer, and what it leaves.
-use Rattle.std.specs.Prelude.{◌≡◌, ℕ, ◌+◌, ◌-◌, ◌^◌, ◌%◌, min, Bool, true, false, ◌&&◌, nat_eq, List, [], ◌∷◌, ◌++◌, Option, Some, None, MatchOption, Ok, Err}
+use Rattle.std.specs.Prelude.{◌≡◌, ℕ, ◌+◌, ◌-◌, ◌^◌, ◌%◌, min, Bool, true, false, not, ◌&&◌, nat_eq, List, [], ◌∷◌, ◌++◌, Option, Some, None, MatchOption, Ok, Err}
 use Rattle.fx_outcomes.specs.Runs.{Goes, Stops}
 use Rattle.fx_base.specs.declared.device_op.DeviceOp.{DeviceOp}
 use Rattle.fx_device.specs.Rules.{Request, load, store}
@@ -111,9 +111,15 @@ abbrev pub refusal : BusError → Walk
 refusal (Device device) = walk.DeviceFault device
 refusal OutOfMemory = walk.OutOfMemory
 
--- What a step may answer and leave where the run hasn't ended. For want of memory all is as it was.
+-- Whether operations took input: a load of the console's register 0, which `give` alone makes.
+abbrev pub takes_input : List DeviceOp → Bool
+takes_input [] = false
+takes_input (op ∷ ops) = is_console op.device op.reg && not op.write
+
+-- What a step may answer and leave where the run hasn't ended. A step that goes on took no input: a load of the
+-- console answers that it waits. For want of memory all is as it was.
 abbrev pub MakesStep : Run → Walk → Run → Type 0
-MakesStep before walk.Went after = (answer : ℕ) × GoesOn before answer walk.Went after
+MakesStep before walk.Went after = (answer : ℕ) × (went : GoesOn before answer walk.Went after) × (takes_input went.made ≡ false)
 MakesStep before (walk.Output byte) after = (answer : ℕ) × GoesOn before answer (walk.Output byte) after
 MakesStep before walk.Input after = AsksInput before.state × (after ≡ before)
 MakesStep before (walk.DeviceFault device) after = Faults before device after

@@ -8,6 +8,7 @@ ghost use Rattle.fx_c_blocks.specs.declared.value.Value.TheVariants.{Number};
 ghost use Rattle.fx_c_mean.specs.States.{Does, Ask, Tell};
 ghost use Rattle.fx_c_control.specs.Views.{frames_of};
 ghost use Rattle.fx_c_acts.specs.Cores.{state_of};
+ghost use Rattle.fx_c_rights.specs.Rights.{rights_of as rights_from};
 ghost use Rattle.fx_c_runner.specs.Walks.{run_of, first_run, walk_of as walk_at, more_cost as cost_after, is_console, refusal, MakesStep, Walked, Waits, Gave};
 
 use crate::start::first_core;
@@ -20,7 +21,10 @@ use fx_c_blocks::block::Place;
 use fx_c_blocks::value::Value;
 use fx_c_mean::end::End;
 use fx_c_mean::rights::Rights;
+use fx_c_rights::rights::rights_of;
+use fx_config::Config;
 use fx_device::{Bus, BusError, Device};
+use fx_grants::Grants;
 use std::alloc::{AllocError, Global};
 
 /// What a step came to.
@@ -98,8 +102,28 @@ pub struct Runner<'p> {
 // A function that has a condition puts no device of its own into a box, so its callers in other crates
 // know it: hence the conditions that always hold.
 impl<'p> Runner<'p> {
-    /// A run of a program with these rights.
+    /// A run of a program with what a configuration grants in it, before its first step.
+    ///
+    /// All that a run looks at stands in the grants: the compartment of each library, the readers and writers
+    /// of each global, the mechanism and the pages of a stack. What the configuration has beyond them, the
+    /// names, the entry functions that a compartment may call and its devices, was decided when the grants
+    /// were made, so the configuration changes nothing here.
     pub fn new(
+        alloc: Global,
+        program: &'p TProgram,
+        grants: Grants,
+        _configuration: Config,
+        bus: Bus,
+    ) -> Result<Runner<'p>, AllocError>
+        requires { ⊤ }
+        ensures { IfOk result (λ r. run_of r.source r.core (bus_state (λ d. (⟦<dyn Device as Device>⟧ d.vtable).meaning d.value) r.bus.boxes r.bus.transcript.items) r.cost r.end ≡ first_run (program_of program.now) (rights_from grants) (bus_state (λ d. (⟦<dyn Device as Device>⟧ d.vtable).meaning d.value) bus.boxes bus.transcript.items)) }
+    {
+        let rights = rights_of(alloc, &grants)?;
+        Runner::of_rights(alloc, program, rights, bus)
+    }
+
+    /// A run of a program with these rights, before its first step.
+    pub fn of_rights(
         alloc: Global,
         program: &'p TProgram,
         rights: Rights,
