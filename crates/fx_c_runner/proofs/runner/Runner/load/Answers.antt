@@ -1,4 +1,4 @@
-use Rattle.std.proofs.Common.{◌≡◌, [], ◌∷◌, false, true, sym, ◌∙◌, rules}
+use Rattle.std.proofs.Common.{◌≡◌, [], ◌∷◌, false, sym, ◌∙◌, rules}
 use Rattle.fx_c_runner.specs.Walks.{is_console}
 use Rattle.fx_c_runner.proofs.Inputs.{other_load}
 use Rattle.fx_c_runner.proofs.runner.Runner.load.Goals as goal
