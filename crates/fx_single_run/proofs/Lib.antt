@@ -1,0 +1,5 @@
+pub mod Telling
+pub mod Serving
+pub mod Stepped
+pub mod Moments
+pub mod Views

@@ -1,0 +1,4 @@
+pub mod Streams
+pub mod Devices
+pub mod Ran
+pub mod Stepping
