@@ -1,0 +1,5 @@
+pub mod Words
+pub mod Verdicts
+pub mod Comes
+pub mod Lines
+pub mod Reports
