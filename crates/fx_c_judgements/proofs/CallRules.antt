@@ -138,5 +138,5 @@ spawn_is library f e =
 pub spawn_holds : {library n : ℕ} {f : FunctionHead} {e t : TExprTree} → SpawnGives library n f e t → spawn library (Some (record { number = n; head = f })) e ≡ Ok t
 spawn_holds (thread_start {library} {n} {f} {e} {v} same long one scalar agree c) =
     bind_ok _ _ _ _
-      (demand_ok _ _ _ _ (scalar_holds scalar) (demand_ok _ _ _ _ (and_from (is_long f.answer) (are_one_long f.params) (ap is_long long) (one_long_holds one)) (demand_ok _ _ _ _ (assignable_holds agree) (ap Ok (converts_holds c)))))
-      (demand_ok _ _ _ _ (eq-eqb f.library library same) refl)
+    (demand_ok _ _ _ _ (scalar_holds scalar) (demand_ok _ _ _ _ (and_from (is_long f.answer) (are_one_long f.params) (ap is_long long) (one_long_holds one)) (demand_ok _ _ _ _ (assignable_holds agree) (ap Ok (converts_holds c)))))
+    (demand_ok _ _ _ _ (eq-eqb f.library library same) refl)

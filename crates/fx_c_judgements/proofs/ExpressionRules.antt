@@ -105,11 +105,11 @@ mutual
   typed_is s b (CallTree name all) =
       bind_ends _ _ (values_are s b NoTExprs all) (λ x h.
       bind_ends _ _ (called_is s.heads x.1 name (λ t. HasType s b (CallTree name all) t x.1) (λ f. call s.library f x.0) (callee s.heads x.1 name) refl
-        (λ g has. map_ends _ (call_is s.library g x.0) (λ t given. judged.call (subst (λ vs. AreValues s b all vs x.1) h.1 h.2) has given)) refused) (λ t g. answered g))
+      (λ g has. map_ends _ (call_is s.library g x.0) (λ t given. judged.call (subst (λ vs. AreValues s b all vs x.1) h.1 h.2) has given)) refused) (λ t g. answered g))
   typed_is s b (GateTree name all) =
       bind_ends _ _ (values_are s b NoTExprs all) (λ x h.
       bind_ends _ _ (called_is s.heads x.1 name (λ t. HasType s b (GateTree name all) t x.1) (λ f. gate f x.0) (callee s.heads x.1 name) refl
-        (λ g has. map_ends _ (gate_is g x.0) (λ t given. judged.gate (subst (λ vs. AreValues s b all vs x.1) h.1 h.2) has given)) refused) (λ t g. answered g))
+      (λ g has. map_ends _ (gate_is g x.0) (λ t given. judged.gate (subst (λ vs. AreValues s b all vs x.1) h.1 h.2) has given)) refused) (λ t g. answered g))
   typed_is s b GetcTree = answered judged.getc
   typed_is s b (PutcTree e) = bind_ends _ _ (typed_is s b e) (λ x h. bind_ends _ _ (bind_ends {Q = λ t. HasType s b (PutcTree e) t x.1} _ _ (long_is x.0) (λ v long. answered (judged.putc h long))) (λ t g. answered g))
   typed_is s b (DevLoadTree device register) = answered judged.device_load
@@ -117,7 +117,7 @@ mutual
   typed_is s b (SpawnTree name e) =
       bind_ends _ _ (typed_is s b e) (λ x h.
       bind_ends _ _ (called_is s.heads x.1 name (λ t. HasType s b (SpawnTree name e) t x.1) (λ f. spawn s.library f (value_of x.0)) (callee s.heads x.1 name) refl
-        (λ g has. map_ends _ (spawn_is s.library g (value_of x.0)) (λ t given. judged.spawn h (value_is x.0) has given)) refused) (λ t g. answered g))
+      (λ g has. map_ends _ (spawn_is s.library g (value_of x.0)) (λ t given. judged.spawn h (value_is x.0) has given)) refused) (λ t g. answered g))
   typed_is s b (SwitchTree e) = bind_ends _ _ (typed_is s b e) (λ x h. bind_ends _ _ (bind_ends {Q = λ t. HasType s b (SwitchTree e) t x.1} _ _ (long_is x.0) (λ v long. answered (judged.switch h long))) (λ t g. answered g))
   typed_is s b MeTree = answered judged.me
 

@@ -108,11 +108,11 @@ compared_is : (declared : ℕ) (op : Binop) (t u : TyTree) (a b : TExprTree) →
 compared_is declared op (PtrTy s) (PtrTy t) a b h is js = agreed_is declared op s t a b h is js (type_of a) (type_of b) is js
 compared_is declared op (PtrTy t) (IntTy j) a b h is js = demand_ends _ _ _ (λ null.
     let one : compared_as op (type_of a) a b ≡ EBin (IntTy Int) op a (EConvert (PtrTy t) b) =
-        ap (λ x. compared_as op x a b) is ∙ ap (λ x. EBin (IntTy Int) op x (converted (PtrTy t) b)) (converted_self a (PtrTy t) is) ∙ ap (EBin (IntTy Int) op a) (converted_other b (PtrTy t) (IntTy j) js (no_pointer j t)) in
+    ap (λ x. compared_as op x a b) is ∙ ap (λ x. EBin (IntTy Int) op x (converted (PtrTy t) b)) (converted_self a (PtrTy t) is) ∙ ap (EBin (IntTy Int) op a) (converted_other b (PtrTy t) (IntTy j) js (no_pointer j t)) in
     answered (subst (BinaryGives declared op a b) (sym one) (judged.pointer_with_null h is js (null_is b null))))
 compared_is declared op (IntTy i) (PtrTy t) a b h is js = demand_ends _ _ _ (λ null.
     let one : compared_as op (type_of b) a b ≡ EBin (IntTy Int) op (EConvert (PtrTy t) a) b =
-        ap (λ x. compared_as op x a b) js ∙ ap (λ x. EBin (IntTy Int) op (converted (PtrTy t) a) x) (converted_self b (PtrTy t) js) ∙ ap (λ x. EBin (IntTy Int) op x b) (converted_other a (PtrTy t) (IntTy i) is (no_pointer i t)) in
+    ap (λ x. compared_as op x a b) js ∙ ap (λ x. EBin (IntTy Int) op (converted (PtrTy t) a) x) (converted_self b (PtrTy t) js) ∙ ap (λ x. EBin (IntTy Int) op x b) (converted_other a (PtrTy t) (IntTy i) is (no_pointer i t)) in
     answered (subst (BinaryGives declared op a b) (sym one) (judged.null_with_pointer h is js (null_is a null))))
 compared_is declared op t u a b h is js = numbers_is declared op a b h
 

@@ -26,13 +26,13 @@ mutual
     block : {s : ScopeTree} {loop : Bool} {b c : BodyTree} {all : StmtTrees} {ts : TStmtTrees} → MeanStatements s loop (entered b []) all ts c → MeansStatement s loop b (BlockTree all) (SBlock ts) (left c)
     -- a local of a type that objects may have, whose name the block doesn't declare yet (6.7, 3 and 7)
     declaration : {s : ScopeTree} {loop : Bool} {b : BodyTree} {shared : Bool} {t : TypeTree} {ty : TyTree} {name : List ℕ} → found name (innermost b) ≡ None → IsObjectType s.heads.tags s.heads.layouts s.declared t ty
-      → MeansStatement s loop b (LocalTree shared t name None) (SLocal (place_16 (place_32 (length b.locals))) None) (with_name (with_local b shared ty) name (place_32 (length b.locals)))
+        → MeansStatement s loop b (LocalTree shared t name None) (SLocal (place_16 (place_32 (length b.locals))) None) (with_name (with_local b shared ty) name (place_32 (length b.locals)))
     -- the local is in reach in its initial value already (6.2.1, 7), which is assigned to it (6.7.9, 11 and 13)
     declaration_with_value : {s : ScopeTree} {loop : Bool} {b c : BodyTree} {shared : Bool} {t : TypeTree} {ty : TyTree} {name : List ℕ} {e : ExprTree} {x v w : TExprTree}
-      → HasType s (entered (with_local b shared ty) ((name, place_32 (length b.locals)) ∷ [])) e x c → HasValue x v
-      → found name (innermost (left c)) ≡ None → IsObjectType s.heads.tags s.heads.layouts s.declared t ty
-      → IsAssigned (ELocal ty (place_16 (place_32 (length b.locals)))) v w
-      → MeansStatement s loop b (LocalTree shared t name (Some e)) (SLocal (place_16 (place_32 (length b.locals))) (Some w)) (with_name (left c) name (place_32 (length b.locals)))
+        → HasType s (entered (with_local b shared ty) ((name, place_32 (length b.locals)) ∷ [])) e x c → HasValue x v
+        → found name (innermost (left c)) ≡ None → IsObjectType s.heads.tags s.heads.layouts s.declared t ty
+        → IsAssigned (ELocal ty (place_16 (place_32 (length b.locals)))) v w
+        → MeansStatement s loop b (LocalTree shared t name (Some e)) (SLocal (place_16 (place_32 (length b.locals))) (Some w)) (with_name (left c) name (place_32 (length b.locals)))
     -- 6.8.3, 2
     evaluation : {s : ScopeTree} {loop : Bool} {b c : BodyTree} {e : ExprTree} {x v : TExprTree} → HasType s b e x c → HasValue x v → MeansStatement s loop b (EvalTree e) (SEval v) c
     -- 6.5.16
