@@ -1,0 +1,12 @@
+-- Both directions at once, and that programs are determined.
+use Rattle.fx_c_check.specs.Programs.{well_typed}
+use Rattle.fx_c_check.specs.ProgramView.{declarations, program_tree}
+use Rattle.fx_c_judgements.proofs.Ends.{ok_is, of_answer}
+use Rattle.fx_c_program_judgements.specs.Laws.{ProgramsAreJudged, ProgramsAreDetermined}
+use Rattle.fx_c_program_judgements.proofs.ProgramRules.{program_is, program_holds}
+
+pub programs : ProgramsAreJudged
+programs files p = (λ h. program_holds h, λ is. of_answer (well_typed (declarations files)) (program_tree p) (program_is (declarations files)) is)
+
+pub one_program : ProgramsAreDetermined
+one_program files p q h k = ok_is p q (well_typed (declarations files)) (program_holds h) (program_holds k)

@@ -1,0 +1,4 @@
+pub mod Steps
+pub mod HeadRules
+pub mod ProgramRules
+pub mod Judged
