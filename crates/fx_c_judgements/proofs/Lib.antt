@@ -6,3 +6,4 @@ pub mod CallRules
 pub mod ExpressionRules
 pub mod StatementRules
 pub mod Judged
+pub mod Examples
