@@ -1,0 +1,4 @@
+pub mod Each
+pub mod Fits
+pub mod Texts
+pub mod Laws
