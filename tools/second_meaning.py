@@ -40,9 +40,8 @@ import sys
 import tempfile
 
 import second_reader
-from second_reader import (CHAR, INT, LONG, SIZES, ULONG, VOID, Body, Program, Refused, Value,
-                           configuration, decayed, is_int, is_pointer, parsed, promoted, spelled,
-                           usual)
+from second_reader import (CHAR, INT, LONG, SIZES, VOID, Body, Program, Refused, configuration,
+                           decayed, is_int, is_pointer, parsed, promoted, spelled, usual)
 
 DEFAULT_BUDGET = 50_000_000
 THREADS = 16
@@ -892,9 +891,15 @@ def single_words(words):
     return words[1], budget
 
 
-def program_of(name, files):
+def program_of(name, files, failing_files=()):
     """The configuration and the checked program."""
+    calls = 0
+
     def read(name, limit):
+        nonlocal calls
+        calls += 1
+        if calls in failing_files:
+            raise Refused(f"file fault: {name}", status=4)
         if name not in files:
             raise Refused(f"no file: {name}", status=4)
         if len(files[name]) > limit:
@@ -909,14 +914,14 @@ def program_of(name, files):
     return config, Program([(library, d) for library, unit in units for d in unit])
 
 
-def single(words, files, world):
+def single(words, files, world, failing_files=()):
     """The answer of the command: the output, the line and the status."""
     given = single_words(words)
     if given is None:
         return b"", "usage", 2
     name, budget = given
     try:
-        config, program = program_of(name, files)
+        config, program = program_of(name, files, failing_files)
         stack = second_reader.PAGE * config.get("stack_pages", 4)
         Run(Meaning(program), stack, budget, world).go()
     except (Refused, End) as end:
@@ -947,6 +952,8 @@ class Case:
         self.names = ["a.c"]
         self.texts = [""]
         self.input = ""
+        self.file_calls = []
+        self.line_calls = []
         self.counts = []
         self.reads = []
         self.room = None
@@ -962,6 +969,10 @@ class Case:
             self.first += rest + "\n"
         elif mark == "<<<":
             self.input += rest
+        elif mark == "%%%":
+            self.file_calls.append(int(rest))
+        elif mark == "$$$":
+            self.line_calls.append(int(rest))
         elif mark == "!!!":
             self.counts.append(int(rest))
         elif mark == "???":
@@ -978,10 +989,14 @@ class Case:
 
     def shown(self):
         world = World(self.input.encode(), 64, self.counts, self.reads, self.room)
-        output, line, status = single(self.words, self.files(), world)
+        output, line, status = single(self.words, self.files(), world, self.file_calls)
         text = f"==={self.title}\n"
         if status == 2:
             return text + "usage\n"
+        if 1 in self.line_calls:
+            # The line can't be put: a write fault, whose own line is tried once.
+            again = status != 5 and 2 not in self.line_calls
+            line, status = "write fault" if again else "", 5
         if output:
             try:
                 text += output.decode() + "\n"
@@ -1263,7 +1278,7 @@ class Writer:
         r = self.r
         kinds = ["assign", "assign", "assign", "print", "declare", "if", "for", "while", "call",
                  "struct", "pointer", "block", "leave", "special", "odd"]
-        weights = [14, 10, 6, 8, 8, 8, 5, 4, 6, 3, 4, 2, 3, 3, 2]
+        weights = [14, 10, 6, 8, 8, 8, 5, 4, 6, 3, 4, 2, 3, 3, 6 if self.wild else 2]
         if depth <= 0:
             kinds, weights = kinds[:5] + ["call"], weights[:5] + [3]
         getattr(self, "stmt_" + r.choices(kinds, weights)[0])(indent, depth)
@@ -1312,15 +1327,10 @@ class Writer:
     def stmt_for(self, indent, depth):
         name = self.name("i")
         self.put(indent, f"int {name} = 0;")
-        self.scopes[-1].append(Place(f"(0 + {name})" if self.for_gcc else name, INT))
-        if self.for_gcc:
-            self.scopes[-1].pop()
         limit = self.r.randint(1, 5)
         self.put(indent, f"for ({name} = 0; {name} < {limit}; {name} = {name} + 1) {{")
         if self.r.random() < 0.7:
             self.put(indent + 1, f"put({name});")
-        if not self.for_gcc:
-            self.scopes[-1].pop()
         self.looped(indent + 1, depth)
         self.put(indent, "}")
 
@@ -1405,7 +1415,7 @@ class Writer:
         if self.for_gcc:
             self.put(indent, ";")
             return
-        if self.strange():
+        if self.wild and self.chance(30):
             self.put(indent, r.choice([
                 "*(char *)&gp = 1;", "gp = dead();", "*gp = 1;", "gp = 0;", "gp = gl + 8;", "gp = gl - 1;",
                 "put(*(long *)&gp);", "gp = *(long **)&gl[1];", "put(gp == gl);", "if (gp) put(1);",
@@ -1500,7 +1510,7 @@ class Writer:
             for number in range(1, r.randint(1, 3) + 1):
                 self.put(1, f"__spawn({r.choice(self.threads)}, {r.randint(0, 9)});")
                 self.put(1, f"__switch({number});")
-                if r.random() < 0.3:
+                if r.random() < 0.1:
                     self.put(1, f"__switch({r.choice([0, number])});")
             self.lines += close + [last]
 
