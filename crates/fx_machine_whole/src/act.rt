@@ -530,6 +530,58 @@ fn quiet(inst: &Inst, length: u64, r: &mut Regs) -> bool
     true
 }
 
+/// Reads a word of 64 bits for an instruction, if it is in memory in one page and may be read.
+#[inline(always)]
+fn load_word(
+    image: &Image,
+    pages: &mut Pages,
+    memory: &Memory,
+    vcpu: u8,
+    r: &Regs,
+    address: u64,
+) -> Option<u64>
+    requires whole { IsImage image.now }
+    requires few { vcpu < 16 }
+    requires agree { Agrees image.now pages.old }
+    ensures made { IfSome result (λ value. Accesses image.now vcpu r.now.pkru (memory_of image.now memory.now) (Need.Reads Width.W64 address) value (memory_of image.now memory.now)) }
+    ensures agree { Agrees image.now pages.new }
+{
+    load(image, pages, memory, vcpu, r.pkru, Width::W64, address)
+}
+
+/// Stores a word of 64 bits for an instruction, if its place is in memory in one page and may be written, and
+/// answers whether it did.
+#[inline(always)]
+fn store_word(
+    image: &Image,
+    pages: &mut Pages,
+    memory: &mut Memory,
+    vcpu: u8,
+    r: &Regs,
+    address: u64,
+    value: u64,
+) -> bool
+    requires whole { IsImage image.now }
+    requires few { vcpu < 16 }
+    requires agree { Agrees image.now pages.old }
+    requires laid { IsLaidOut image.now memory.old }
+    ensures made { IsTrue result → Accesses image.now vcpu r.now.pkru (memory_of image.now memory.old) (Need.Writes Width.W64 address value) 0 (memory_of image.now memory.new) }
+    ensures kept { result ≡ false → memory.new ≡ memory.old }
+    ensures agree { Agrees image.now pages.new }
+    ensures laid { IsLaidOut image.now memory.new }
+{
+    store(
+        image,
+        pages,
+        memory,
+        vcpu,
+        r.pkru,
+        Width::W64,
+        address,
+        value,
+    )
+}
+
 /// Does an instruction of a length, if it is a common one and its access, if it asks for one, is to memory in
 /// one page, and answers whether it is done. Where it isn't, nothing has changed.
 #[inline(always)]
@@ -559,15 +611,7 @@ fn perform_common(
             dst,
             mem,
         } => {
-            match load(
-                image,
-                pages,
-                memory,
-                vcpu,
-                r.pkru,
-                Width::W64,
-                r.address(mem),
-            ) {
+            match load_word(image, pages, memory, vcpu, r, r.address(mem)) {
                 Some(value) => {
                     r.rip = next;
                     r.set(dst, value);
@@ -576,7 +620,7 @@ fn perform_common(
                 None => false,
             }
         }
-        Inst::Pop { reg } => match load(image, pages, memory, vcpu, r.pkru, Width::W64, r.gpr[4]) {
+        Inst::Pop { reg } => match load_word(image, pages, memory, vcpu, r, r.gpr[4]) {
             Some(value) => {
                 r.rip = next;
                 r.gpr[4] = up(r.gpr[4]);
@@ -590,16 +634,7 @@ fn perform_common(
             mem,
             src,
         } => {
-            if store(
-                image,
-                pages,
-                memory,
-                vcpu,
-                r.pkru,
-                Width::W64,
-                r.address(mem),
-                r.get(src),
-            ) {
+            if store_word(image, pages, memory, vcpu, r, r.address(mem), r.get(src)) {
                 r.rip = next;
                 true
             } else {
@@ -607,16 +642,7 @@ fn perform_common(
             }
         }
         Inst::Push { reg } => {
-            if store(
-                image,
-                pages,
-                memory,
-                vcpu,
-                r.pkru,
-                Width::W64,
-                down(r.gpr[4]),
-                r.get(reg),
-            ) {
+            if store_word(image, pages, memory, vcpu, r, down(r.gpr[4]), r.get(reg)) {
                 r.rip = next;
                 r.gpr[4] = down(r.gpr[4]);
                 true
