@@ -23,7 +23,7 @@ use Rattle.flexos.specs.Words.{IsExec, IsRun}
 use Rattle.flexos.specs.Runs.{DoneRun}
 
 -- a status that is another number
-no_status : {P : Type 0} (status wanted : ℕ) → status ≡ wanted → wanted < status → P
+pub no_status : {P : Type 0} (status wanted : ℕ) → status ≡ wanted → wanted < status → P
 no_status status wanted is less = absurd (omega arith)
 
 -- a verdict of status 0 is an exit
@@ -82,7 +82,7 @@ exec_is_no_run [] given exec = cc
 exec_is_no_run (command ∷ []) given exec = cc
 exec_is_no_run (command ∷ config ∷ rest) given exec = exec_by command config rest _ given (bytes_eq command (codes "exec")) (is_file_name config) refl exec
 
-no_two : {A P : Type 0} (x : A) → Some x ≡ None → P
+pub no_two : {A P : Type 0} (x : A) → Some x ≡ None → P
 no_two {A} x e = absurd (cc_some e) where
   is_some_value : Option A → Type 0
   is_some_value (Some y) = Unit {0}

@@ -4,6 +4,7 @@ ghost use Rattle.std.specs.Prelude.{◌≡◌, map, MatchOption, string_bytes};
 ghost use Rattle.flexos.specs.Words.{IsPlace, IsNoPlace, IsUsage, IsCommand};
 
 use fx_run_words::words::{ExecWords, RunWords, is_file_name};
+use fx_single_command::words::{SingleWords, single_of};
 
 /// The command `place CONF`: puts the placement of the program of CONF's sources.
 #[derive(Clone, Copy, Debug)]
@@ -17,6 +18,7 @@ pub enum Command<'a> {
     Exec(ExecWords<'a>),
     Run(RunWords<'a>),
     Place(Place<'a>),
+    Single(SingleWords<'a>),
 }
 
 /// The command `place` that the words are.
@@ -45,7 +47,10 @@ pub fn command_of(words: &[String]) -> Option<Command<'_>>
             Some(run) => Some(Command::Run(run)),
             None => match place_of(words) {
                 Some(place) => Some(Command::Place(place)),
-                None => None,
+                None => match single_of(words) {
+                    Some(single) => Some(Command::Single(single)),
+                    None => None,
+                },
             },
         },
     }

@@ -174,6 +174,27 @@ fn programs_are_placed(rt: HostRuntime) -> Result<(), Fail> {
 }
 
 #[test]
+fn a_program_runs_in_one_compartment(rt: HostRuntime) -> Result<(), Fail> {
+    let alloc = rt.alloc();
+    let files: [(&str, &[u8]); 3] = [
+        ("conf.toml", TWO_COMPARTMENTS),
+        (
+            "a.c",
+            b"long secret = 7; long main() { return __gate(peek, &secret); }",
+        ),
+        ("b.c", b"__entry long peek(long *p) { return *p; }"),
+    ];
+    let left = command(alloc, "single conf.toml", &files, 0, 2000)?;
+    assert_eq!(rt; left.status, 0);
+    assert!(rt; left.out.bytes().is_empty());
+    assert_eq!(rt; left.err.bytes(), b"exit 7 in 22 steps\n".as_slice());
+    let left = command(alloc, "single conf.toml --steps 21", &files, 0, 2000)?;
+    assert_eq!(rt; left.status, 8);
+    assert_eq!(rt; left.err.bytes(), b"steps spent: 21\n".as_slice());
+    Ok(())
+}
+
+#[test]
 fn other_words_are_usage(rt: HostRuntime) -> Result<(), Fail> {
     let cases = [
         "",
@@ -191,6 +212,8 @@ fn other_words_are_usage(rt: HostRuntime) -> Result<(), Fail> {
         "place",
         "place -x",
         "place conf.toml more",
+        "single",
+        "single conf.toml --steps",
     ];
     for text in cases {
         let files = [("conf.toml", EARLY_DOCUMENT.as_bytes())];

@@ -8,10 +8,13 @@ ghost use Rattle.fx_placing.specs.Placing.{TookNothing};
 ghost use Rattle.fx_run_words.specs.Words.{RunGiven, ExecGiven};
 ghost use Rattle.fx_run_command.specs.Reports.{Ended, Does};
 ghost use Rattle.fx_exec_command.specs.Does.{DoesExec};
-ghost use Rattle.flexos.specs.Words.{IsExec, IsRun, IsPlace, IsUsage};
+ghost use Rattle.fx_single_command.specs.Words.{SingleGiven};
+ghost use Rattle.fx_single_command.specs.Reports.{DoesSingle};
+ghost use Rattle.flexos.specs.Words.{IsExec, IsRun, IsPlace, IsSingle, IsUsage};
 ghost use Rattle.flexos.specs.Execs.{DoneWords};
 ghost use Rattle.flexos.specs.Runs.{DoneRun};
 ghost use Rattle.flexos.specs.Places.{DoesPlace, DonePlace};
+ghost use Rattle.flexos.specs.Singles.{DoneSingle};
 
 use crate::command::{Command, command_of};
 use fx_base::{Files, Sink, Source};
@@ -19,6 +22,7 @@ use fx_device::Device;
 use fx_exec_command::report::exec_command;
 use fx_place_command::place_command;
 use fx_run_command::report::{conclude, run_command};
+use fx_single_command::single_command;
 use std::alloc::Global;
 
 /// The line of words that are no command.
@@ -40,6 +44,10 @@ const USAGE_LINE: &str = "usage\n";
 /// object of its image to `out`: its address, key, size and name, in order of address. The limits of the files
 /// are those of `exec`.
 ///
+/// `single CONF` reads CONF and its sources, checks the program, and runs it by the meaning of the source with all
+/// its libraries in one compartment. Its option is `--steps N`: steps are made while their cost so far is below N,
+/// or below 50,000,000. The limits of the files are those of `exec`.
+///
 /// All other words are usage. One line goes to `err`, but none where `place` is done. The statuses: 0 the run
 /// ended by Exit or the placement was put, 1 an access was
 /// denied, 2 usage, 3 refused, 4 a file's fault, 5 `out` or `err` failed, 6 out of memory, 7 a stack is full, 8
@@ -55,7 +63,8 @@ pub fn flexos<F: Files, I: Source, O: Sink, E: Sink>(
 ) -> u8
     requires { length devices.items ≤ 15 }
     // Status 0: `exec` wrote an image that is faithful to the source read, and the output took the source's
-    // constants; or the run of the image read ended by Exit; or `place` put the placement.
+    // constants; or the run of the image read ended by Exit; or `place` put the placement; or the run of the
+    // program in one compartment came to an end by Exit.
     ensures done { result ≡ 0 → DoneWords (map string_bytes words.now) (map (option_map (λ d. (⟦<dyn Device as Device>⟧ d.vtable).meaning d.value)) (plugged 15 devices.items))
         (record { held = F.held files.old; file_faults = F.faults files.old; left = I.left input.old; input_faults = I.faults input.old; taken = O.taken out.old; output_faults = O.faults out.old })
         (record { held = F.held files.new; file_faults = F.faults files.new; left = I.left input.new; input_faults = I.faults input.new; taken = O.taken out.new; output_faults = O.faults out.new })
@@ -64,7 +73,11 @@ pub fn flexos<F: Files, I: Source, O: Sink, E: Sink>(
         (record { held = F.held files.old; file_faults = F.faults files.old; left = I.left input.old; input_faults = I.faults input.old; taken = O.taken out.old; output_faults = O.faults out.old })
         (record { held = F.held files.new; file_faults = F.faults files.new; left = I.left input.new; input_faults = I.faults input.new; taken = O.taken out.new; output_faults = O.faults out.new })
         (E.taken err.old) (E.taken err.new)
-        ⊎ DonePlace (map string_bytes words.now) (F.held files.old) (O.taken out.old) (O.taken out.new) (E.taken err.old) (E.taken err.new) }
+        ⊎ DonePlace (map string_bytes words.now) (F.held files.old) (O.taken out.old) (O.taken out.new) (E.taken err.old) (E.taken err.new)
+        ⊎ DoneSingle (map string_bytes words.now) (map (option_map (λ d. (⟦<dyn Device as Device>⟧ d.vtable).meaning d.value)) (plugged 15 devices.items))
+        (record { held = F.held files.old; file_faults = F.faults files.old; left = I.left input.old; input_faults = I.faults input.old; taken = O.taken out.old; output_faults = O.faults out.old })
+        (record { held = F.held files.new; file_faults = F.faults files.new; left = I.left input.new; input_faults = I.faults input.new; taken = O.taken out.new; output_faults = O.faults out.new })
+        (E.taken err.old) (E.taken err.new) }
     // Status 2 comes of words alone.
     ensures words { result ≡ 2 → IsUsage (map string_bytes words.now) }
     // Words that are no command: status 2 and its line, and nothing is touched.
@@ -91,6 +104,14 @@ pub fn flexos<F: Files, I: Source, O: Sink, E: Sink>(
         DoesPlace config (F.held files.old) (F.held files.new) (F.faults files.old) (F.faults files.new)
         (O.taken out.old) (O.taken out.new) (O.faults out.old) (O.faults out.new)
         result (E.taken err.old) (E.taken err.new) (E.faults err.old) (E.faults err.new) }
+    // `single`: it runs the program in one compartment as the meaning of the source says, each answer has its
+    // cause, and the line and status are those of what it came to. No file is changed.
+    ensures single { (given : SingleGiven) → IsSingle (map string_bytes words.now) given →
+        DoesSingle given (map (option_map (λ d. (⟦<dyn Device as Device>⟧ d.vtable).meaning d.value)) (plugged 15 devices.items))
+        (record { held = F.held files.old; file_faults = F.faults files.old; left = I.left input.old; input_faults = I.faults input.old; taken = O.taken out.old; output_faults = O.faults out.old })
+        (record { held = F.held files.new; file_faults = F.faults files.new; left = I.left input.new; input_faults = I.faults input.new; taken = O.taken out.new; output_faults = O.faults out.new })
+        result (E.taken err.old) (E.taken err.new) (E.faults err.old) (E.faults err.new)
+        × Told SameFiles (F.held files.old) (F.held files.new) }
 {
     let Some(command) = command_of(words) else {
         return conclude(err, 2, USAGE_LINE.as_bytes());
@@ -99,5 +120,6 @@ pub fn flexos<F: Files, I: Source, O: Sink, E: Sink>(
         Command::Exec(given) => exec_command(alloc, &given, files, input, out, err, devices),
         Command::Run(given) => run_command(alloc, &given, files, input, out, err, devices),
         Command::Place(place) => place_command(alloc, place.config, files, out, err),
+        Command::Single(given) => single_command(alloc, &given, files, input, out, err, devices),
     }
 }

@@ -18,31 +18,59 @@ fn held_files(alloc: Global, files: &[TextFile], failing: &[u64]) -> Result<MemF
     Ok(held)
 }
 
-/// What a run wrote.
+/// What a run reads and writes.
 #[derive(Drop)]
-struct Left {
-    status: u8,
+struct Streams {
+    files: MemFiles,
+    input: MemSource,
     out: MemSink,
     err: MemSink,
 }
 
-/// Makes a run.
-fn left_by(alloc: Global, case: &Case, words: &SingleWords<'_>) -> Result<Left, AllocError> {
-    let mut files = held_files(alloc, &case.files, &case.failing_files)?;
+fn source_of(alloc: Global, case: &Case) -> Result<MemSource, AllocError> {
     let bytes = Vec::from_slice(alloc, case.input.as_bytes())?;
     let reads = Vec::from_slice(alloc, &case.failing_reads)?;
-    let mut input = MemSource::new(bytes, reads);
-    let mut out = MemSink::new(alloc, case.room, ROOM, Vec::new(alloc))?;
+    Ok(MemSource::new(bytes, reads))
+}
+
+fn error_of(alloc: Global, case: &Case) -> Result<MemSink, AllocError> {
     let lines = Vec::from_slice(alloc, &case.failing_lines)?;
-    let mut err = MemSink::new(alloc, ROOM, ROOM, lines)?;
+    MemSink::new(alloc, ROOM, ROOM, lines)
+}
+
+fn streams_of(alloc: Global, case: &Case) -> Result<Streams, AllocError> {
+    let files = held_files(alloc, &case.files, &case.failing_files)?;
+    let input = source_of(alloc, case)?;
+    let out = MemSink::new(alloc, case.room, ROOM, Vec::new(alloc))?;
+    let err = error_of(alloc, case)?;
+    Ok(Streams {
+        files,
+        input,
+        out,
+        err,
+    })
+}
+
+/// Makes a run, and gives its status.
+fn status_of(
+    alloc: Global,
+    case: &Case,
+    words: &SingleWords<'_>,
+    streams: &mut Streams,
+) -> Result<u8, AllocError> {
     let calls = Vec::from_slice(alloc, &case.failing_counts)?;
     let mut devices: Vec<Box<dyn Device>> = Vec::new(alloc);
     devices.push(Box::new(alloc, BlockStore::new(alloc, STORE_WORDS)?)?)?;
     devices.push(Box::new(alloc, FailAt::new(Counter::new(0), calls))?)?;
-    let status = single_command(
-        alloc, words, &mut files, &mut input, &mut out, &mut err, devices,
-    );
-    Ok(Left { status, out, err })
+    Ok(single_command(
+        alloc,
+        words,
+        &mut streams.files,
+        &mut streams.input,
+        &mut streams.out,
+        &mut streams.err,
+        devices,
+    ))
 }
 
 /// The answer to a case: the output, if there is one, the line and the status, each on lines of its own.
@@ -50,13 +78,14 @@ pub fn answer(alloc: Global, case: &Case) -> Result<String, AllocError> {
     let Some(words) = single_of(&case.words) else {
         return String::from_str(alloc, "usage");
     };
-    let left = left_by(alloc, case, &words)?;
-    let out = String::from_utf8_lossy(alloc, left.out.bytes())?;
-    let line = String::from_utf8_lossy(alloc, left.err.bytes())?;
+    let mut streams = streams_of(alloc, case)?;
+    let status = status_of(alloc, case, &words, &mut streams)?;
+    let out = String::from_utf8_lossy(alloc, streams.out.bytes())?;
+    let line = String::from_utf8_lossy(alloc, streams.err.bytes())?;
     let line = line.trim_end();
     if out.is_empty() {
-        format!(in alloc; "{line}\nstatus {}", left.status)
+        format!(in alloc; "{line}\nstatus {status}")
     } else {
-        format!(in alloc; "{out}\n{line}\nstatus {}", left.status)
+        format!(in alloc; "{out}\n{line}\nstatus {status}")
     }
 }

@@ -1,0 +1,20 @@
+-- The command `single` that ended well.
+use Rattle.std.specs.Prelude.{ℕ, ℤ, List, [], ◌∷◌, ◌++◌, Option}
+use Rattle.fx_base.specs.Told.{Told}
+use Rattle.fx_device.specs.Rules.{Meaning}
+use Rattle.fx_single_run.specs.Streams.{Gained}
+use Rattle.fx_single_command.specs.Words.{SingleGiven}
+use Rattle.fx_single_command.specs.Comes.{Streams, RunsProgram}
+use Rattle.fx_single_command.specs.Lines.{verdict_words}
+use Rattle.fx_single_command.specs.declared.verdict.Verdict.TheVariants.{Exited}
+use Rattle.flexos.specs.Words.{IsSingle}
+
+-- The command `single` that ended with status 0: the run of the program in one compartment came to an end by
+-- Exit, and the line tells its value and its cost.
+pub record DoneSingle (words : List (List ℕ)) (boxes : List (Option Meaning)) (before after : Streams) (told printed : Option (List ℕ)) : Type 0 where
+  pub given : SingleGiven
+  pub single : IsSingle words given
+  pub value : ℤ
+  pub cost : ℕ
+  pub ran : RunsProgram given boxes before after (Exited value cost)
+  pub line : Told (Gained (verdict_words (Exited value cost) ++ 10 ∷ [])) told printed
