@@ -22,9 +22,10 @@ use Rattle.fx_single_run.specs.declared.outcome.Outcome.TheVariants as outcomes
 use Rattle.fx_single_run.specs.Ran.{RunsTo, Output, Input}
 use Rattle.fx_single_run.proofs.Moments.{nothing_ran}
 use Rattle.fx_single_command.specs.Verdicts.{IsUndenied, IsCalled}
-use Rattle.fx_program.specs.Programs.{IsProgramOf}
+use Rattle.fx_program.specs.declared.error.ProgramError.{ProgramError}
+use Rattle.fx_program.specs.Programs.{IsProgramOf, ProgramCause}
 use Rattle.fx_single_command.specs.Words.{SingleGiven, budget_of}
-use Rattle.fx_single_command.specs.Comes.{Streams, RunsMerged, RunsProgram}
+use Rattle.fx_single_command.specs.Comes.{Streams, RunsMerged, RunsProgram, NotBegun}
 use Rattle.fx_single_command.specs.declared.verdict.Verdict.{Verdict}
 use Rattle.fx_single_command.specs.declared.verdict.Verdict.TheVariants.{OutOfMemory}
 
@@ -81,3 +82,8 @@ runs_program given boxes before after k p budget verdict is loaded run = record 
   loaded = loaded;
   run = subst (λ b. RunsMerged b boxes before after k p verdict) is run;
 }
+
+-- there is no checked program, and neither input nor output was touched
+pub not_begun : (given : SingleGiven) (before after : Streams) (error : ProgramError) → ProgramCause given.config before.held before.file_faults after.file_faults error
+    → after.left ≡ before.left → after.taken ≡ before.taken → NotBegun given before after error
+not_begun given before after error why unread kept = record { why = why; input = unread; output = kept }
