@@ -47,11 +47,12 @@ impl Cells {
         self.cells.as_slice()
     }
 
-    /// Drops the cells.
+    /// Drops the cells, and gives back the memory that they took.
     pub fn clear(&mut self)
         ensures { self.new ≡ [] }
     {
         self.cells.clear();
+        self.cells.shrink_to_fit();
     }
 
     /// Sets a cell, where there is one at the place.
