@@ -4,6 +4,4 @@
 pub mod copies;
 pub mod heads;
 pub mod sizes;
-#[cfg(test)]
-mod tests;
 pub mod written;

@@ -1,11 +1,11 @@
 //! Runs of the rules on small trees, with the conversions that C11 asks for, and of written types.
 
-use crate::heads::Heads;
-use crate::written::ty_of;
 use fx_c_ast::checked::{TExpr, TKind, TLocal, Ty};
 use fx_c_ast::operator::{Binop, IntType, Unop};
 use fx_c_ast::parsed::TypeName;
 use fx_c_ast::sequence::Sequence;
+use fx_c_heads::heads::Heads;
+use fx_c_heads::written::ty_of;
 use fx_c_names::names::Names;
 use fx_c_typing::calls::arguments;
 use fx_c_typing::fault::{Fault, TypeKind};
