@@ -10,8 +10,7 @@ use Rattle.fx_device.specs.Rules.{Meaning}
 use Rattle.fx_device.specs.Bus.{box_of}
 use Rattle.fx_image.specs.declared.forms.Image.{Image}
 use Rattle.fx_machine.specs.Boot.{boot_byte, boot_regs, vcpus}
-use Rattle.fx_machine.specs.Effects.{all_ones}
-use Rattle.fx_machine.specs.Moves.{move}
+use Rattle.fx_machine.specs.Moves.{all_ones, move}
 use Rattle.fx_machine.specs.Running.{boot, run_image, image_turns, image_after}
 use Rattle.fx_machine.specs.declared.stop.Stop.{Stop}
 use Rattle.fx_machine.specs.declared.stop.Stop.TheVariants.{Exit}

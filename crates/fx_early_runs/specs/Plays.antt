@@ -4,7 +4,7 @@ use Rattle.fx_base.specs.declared.device_op.DeviceOp.{DeviceOp}
 use Rattle.fx_outcomes.specs.Keeping.{IsPrefix}
 use Rattle.fx_device.specs.Rules.{Meaning}
 use Rattle.fx_image.specs.declared.forms.Image.{Image}
-use Rattle.fx_machine.specs.Effects.{all_ones}
+use Rattle.fx_machine.specs.Moves.{all_ones}
 use Rattle.fx_machine.specs.Running.{run_image, image_turns}
 use Rattle.fx_machine.specs.declared.stop.Stop.{Stop}
 use Rattle.fx_machine.specs.declared.stop.Stop.TheVariants.{Exit}

@@ -1,5 +1,5 @@
 -- How large an image that meets the field rules is, and that its keys are protection keys.
-use Rattle.std.proofs.Common.{◌≡◌, ◌≢◌, ℕ, suc, zero, ◌+◌, ◌*◌, ◌<◌, ◌≤◌, ◌⊎◌, inl, inr, Bool, true, false, Some, List, [], ◌∷◌, length, refl, subst, arith}
+use Rattle.std.proofs.Common.{◌≡◌, ℕ, suc, zero, ◌+◌, ◌*◌, ◌<◌, ◌≤◌, ◌⊎◌, inl, inr, Bool, true, false, Some, List, [], ◌∷◌, length, refl, subst, arith}
 use Rattle.std.specs.Prelude.{nat_le, ◌==◌, ◌&&◌, ◌||◌, not, nat_eq, slice_get, if◌then◌else◌, sum_by}
 use Rattle.std.proofs.Math.Nat.{mul-le-mul}
 use Rattle.std.proofs.lemmas.Bool.Decides.{nat_tests}
@@ -8,7 +8,6 @@ use Rattle.fx_image.specs.Layout.{has_halves, stack_count, stack_span}
 use Rattle.fx_image.specs.Rules.{IsImage, all_numbered, has_key, are_few, are_spread}
 use Rattle.fx_image.specs.declared.forms.Section.{Section}
 use Rattle.fx_image.specs.declared.forms.Image.{Image}
-use Rattle.fx_machine.specs.Layout.{is_ept}
 
 pub both : (a b : Bool) → a && b ≡ true → (a ≡ true) × (b ≡ true)
 both true b e = (refl, e)
@@ -23,12 +22,6 @@ at_most a b e = grind (arith, nat_tests)
 
 same_if : (a b : ℕ) → nat_eq a b ≡ true → a ≡ b
 same_if a b e = grind (arith, nat_tests)
-
-other_if : (a b : ℕ) → a ≢ b → nat_eq a b ≡ false
-other_if a b h = grind (arith, nat_tests)
-
-pub one_space : (image : Image) → image.mechanism ≢ 3 → is_ept image ≡ false
-one_space image h = other_if image.mechanism 3 h
 
 threads_by : (version threads : ℕ) → (threads == 8) || ((threads == 16) && not (version == 1)) ≡ true → threads ≤ 16
 threads_by version threads e = elim (either (threads == 8) ((threads == 16) && not (version == 1)) e) [

@@ -6,10 +6,5 @@ pub mod Standing
 pub mod Executing
 pub mod Placing
 pub mod Bounds
-pub mod Entries
-pub mod ByRegion
 pub mod Bytes
-pub mod Objects
 pub mod Writing
-pub mod Holding
-pub mod Turning

@@ -61,7 +61,7 @@ no_literals image page f from =
     let a : nat_le 0x600 page ≡ true = le_true 0x600 page (omega arith) in
     simp (a, b)
 
-pub no_mailbox : (image : Image) (space page : ℕ) → is_ept image ≡ false → mailbox_entry image space page ≡ None
+no_mailbox : (image : Image) (space page : ℕ) → is_ept image ≡ false → mailbox_entry image space page ≡ None
 no_mailbox image space page h = cases (nat_le 0xe000 page) refl
   where
     cases : (t : Bool) → nat_le 0xe000 page ≡ t → mailbox_entry image space page ≡ None
@@ -80,17 +80,17 @@ no_device image space page h =
 after_four : {A : Type 0} (a b c d : Option A) (rest : List (Option A)) → a ≡ None → b ≡ None → c ≡ None → d ≡ None → first_of (a ∷ b ∷ c ∷ d ∷ rest) ≡ first_of rest
 after_four a b c d rest p q r s = rw (p, q, r, s) refl
 
-pub after_two : {A : Type 0} (a b : Option A) (rest : List (Option A)) → a ≡ None → b ≡ None → first_of (a ∷ b ∷ rest) ≡ first_of rest
+after_two : {A : Type 0} (a b : Option A) (rest : List (Option A)) → a ≡ None → b ≡ None → first_of (a ∷ b ∷ rest) ≡ first_of rest
 after_two a b rest p q = rw (p, q) refl
 
 here : {A : Type 0} (a : Option A) (x : A) (rest : List (Option A)) → a ≡ Some x → first_of (a ∷ rest) ≡ Some x
 here a x rest p = rw p refl
 
-pub last_of : {A : Type 0} (a : Option A) → first_of (a ∷ []) ≡ a
+last_of : {A : Type 0} (a : Option A) → first_of (a ∷ []) ≡ a
 last_of None = refl
 last_of (Some x) = refl
 
-pub first_four : (image : Image) (space page : ℕ) → Fits image → is_ept image ≡ false → 0xf001 ≤ page → page_entry image space page ≡ first_of (device_entry image space page ∷ section_entry (is_ept image) space page image.sections ∷ stack_entry image space page ∷ [])
+first_four : (image : Image) (space page : ℕ) → Fits image → is_ept image ≡ false → 0xf001 ≤ page → page_entry image space page ≡ first_of (device_entry image space page ∷ section_entry (is_ept image) space page image.sections ∷ stack_entry image space page ∷ [])
 unfolding page_entry
 first_four image space page f h from =
     let ne : page ≢ 0xf000 = λ e. omega (arith, e) in

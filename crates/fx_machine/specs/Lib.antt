@@ -1,10 +1,6 @@
 pub mod Layout
 pub mod Boot
 pub mod Regions
-pub mod Memory
 pub mod Moves
-pub mod Effects
 pub mod Turns
-pub mod Inside
-pub mod Machines
 pub mod Running

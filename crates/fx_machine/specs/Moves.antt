@@ -1,5 +1,5 @@
 -- One turn of a vCPU: it executes one whole instruction.
-use Rattle.std.specs.Prelude.{ℕ, zero, suc, ◌+◌, ◌-◌, ◌/◌, ◌%◌, Bool, true, false, ◌==◌, if◌then◌else◌, List, [], ◌∷◌, ◌++◌, length, Option, Some, None}
+use Rattle.std.specs.Prelude.{ℕ, zero, suc, ◌+◌, ◌-◌, ◌/◌, ◌%◌, ◌^◌, Bool, true, false, ◌==◌, if◌then◌else◌, List, [], ◌∷◌, ◌++◌, length, Option, Some, None}
 use Rattle.std.specs.Int.{w64, cast_signed}
 use Rattle.fx_outcomes.specs.Runs.{Next, Goes, Stops}
 use Rattle.fx_base.specs.declared.device_op.DeviceOp.{DeviceOp}
@@ -36,6 +36,10 @@ use Rattle.fx_machine.specs.declared.stop.Stop.TheVariants.{Exit, Page, Invalid,
 pub record World : Type 0 where
   pub memory : ℕ → ℕ
   pub answers : List ℕ
+
+-- What a load of a device that no box stands for is answered.
+abbrev pub all_ones : ℕ
+all_ones = 2 ^ 64 - 1
 
 abbrev pub Move : Type 0
 Move = Next DeviceOp (Regs × World) Stop

@@ -1,5 +1,5 @@
 -- The regions of memory that may be written.
-use Rattle.std.specs.Prelude.{ℕ, ◌+◌, ◌-◌, ◌*◌, max, Bool, ◌&&◌, nat_le, nat_lt, List, [], ◌∷◌, length}
+use Rattle.std.specs.Prelude.{ℕ, ◌+◌, ◌-◌, ◌*◌, max, List, [], ◌∷◌}
 use Rattle.fx_image.specs.Layout.{stack_count, stack_span}
 use Rattle.fx_image.specs.declared.forms.Image.{Image}
 use Rattle.fx_image.specs.declared.forms.Section.{Section}
@@ -11,10 +11,6 @@ word_start = 0xf00_0000
 
 abbrev pub sections_start : ℕ
 sections_start = 0x1000_0000
-
--- Whether bytes that begin at an address have the one at another.
-abbrev pub has_byte : List ℕ → ℕ → ℕ → Bool
-has_byte bytes start address = nat_le start address && nat_lt (address - start) (length bytes)
 
 -- The page behind the last one of a list of sections.
 abbrev pub sections_end : List Section → ℕ

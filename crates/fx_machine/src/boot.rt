@@ -1,16 +1,12 @@
-//! What memory and registers hold at boot.
+//! What memory holds at boot.
 
-ghost use Rattle.std.specs.Prelude.{◌≡◌, ◌≢◌, ◌+◌, ◌<◌, ◌≤◌, ◌^◌, ℕ, length, slice_index, IfOk};
+ghost use Rattle.std.specs.Prelude.{◌≡◌, ◌<◌};
 ghost use Rattle.fx_image.specs.Rules.{IsImage};
 ghost use Rattle.fx_cpu.specs.Memory.{byte_of};
-ghost use Rattle.fx_machine.specs.Boot.{byte_from, covers, object_byte, idle_byte, boot_byte, boot_regs, home_pkru};
+ghost use Rattle.fx_machine.specs.Boot.{byte_from, covers, object_byte, idle_byte, boot_byte};
 
 use crate::layout::{stack_count, stack_span};
-use fx_cpu::registers::Regs;
 use fx_image::{Image, Obj};
-use fx_vm_pages::entry::Pkru;
-use fx_word_ops::flags::Flags;
-use std::alloc::{AllocError, Global};
 
 /// The byte at an address, of bytes that begin at `start`.
 #[inline]
@@ -90,44 +86,4 @@ pub fn boot_byte(image: &Image, address: u64) -> u8
         return byte;
     }
     idle_byte(image, address).unwrap_or(0)
-}
-
-/// The bytes at boot of a region.
-pub fn region(alloc: Global, image: &Image, start: u64, size: u64) -> Result<Vec<u8>, AllocError>
-    requires whole { IsImage image.now }
-    requires fits { start + size < 2 ^ 64 }
-    ensures size { IfOk result (λ v. length v.items ≡ size) }
-    ensures bytes { IfOk result (λ v. (k : ℕ) → k < size → slice_index v.items k ≡ boot_byte image.now (start + k)) }
-{
-    let mut bytes = Vec::with_capacity(alloc, size as usize)?;
-    for i in 0..size {
-        bytes.push(boot_byte(image, start + i))?;
-    }
-    Ok(bytes)
-}
-
-/// The registers of the first vCPU at boot.
-pub fn boot_regs(image: &Image) -> Regs
-    requires { IsImage image.now }
-    ensures { result ≡ boot_regs image.now 0 }
-{
-    let pkru = match image.compartments.as_slice().get(usize::from(image.home)) {
-        Some(home) => home.pkru,
-        None => 0,
-    };
-    let (rip, rsp) = match image.starts.as_slice().first() {
-        Some(start) => (u64::from(start.rip), start.rsp),
-        None => (0, 0),
-    };
-    Regs {
-        gpr: [0, 0, 0, 0, rsp, 0, 0, 0, 0, 0, 0, 0, 0, 0, 0, 0],
-        rip,
-        flags: Flags {
-            cf: false,
-            zf: false,
-            sf: false,
-            of: false,
-        },
-        pkru: Pkru(pkru),
-    }
 }

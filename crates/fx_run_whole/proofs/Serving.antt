@@ -10,7 +10,7 @@ use Rattle.fx_base.specs.declared.device_op.DeviceOp.{DeviceOp}
 use Rattle.fx_device.specs.Rules.{Meaning, left_in, load, store}
 use Rattle.fx_device.specs.Bus.{BusState, box_of, with_box, operation, operations_of, silence, Ends, Lands, Carries, Leads, answered}
 use Rattle.fx_device.proofs.Boxes.{box_of-with_box, box_of-with_box_other, box_of-with_none}
-use Rattle.fx_machine.specs.Effects.{all_ones}
+use Rattle.fx_machine.specs.Moves.{all_ones}
 use Rattle.fx_machine_whole.specs.Turns.{request_of, console_load}
 use Rattle.fx_run_whole.specs.Ran.{AllOnes, console_others, plug_of, IsPlugged}
 use Rattle.fx_run_whole.specs.Reached.{Served, ServedOrDue, Devices, DevicesDue}

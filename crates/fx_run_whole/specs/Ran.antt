@@ -10,8 +10,7 @@ use Rattle.fx_device.specs.Bus.{box_of, operations_of, Leads}
 use Rattle.fx_cpu.specs.declared.registers.Regs.{Regs}
 use Rattle.fx_image.specs.declared.forms.Image.{Image}
 use Rattle.fx_machine.specs.Boot.{vcpus}
-use Rattle.fx_machine.specs.Effects.{all_ones}
-use Rattle.fx_machine.specs.Moves.{World, move}
+use Rattle.fx_machine.specs.Moves.{all_ones, World, move}
 use Rattle.fx_machine.specs.Running.{boot, run_image, image_turns, image_after}
 use Rattle.fx_machine.specs.declared.stop.Stop.{Stop}
 use Rattle.fx_machine_whole.specs.Turns.{made_of, taken_by, request_of, asked, console_load}
