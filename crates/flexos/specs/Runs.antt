@@ -3,7 +3,7 @@ use Rattle.std.specs.Prelude.{ℕ, ℤ, List, Option}
 use Rattle.fx_base.specs.Told.{Told}
 use Rattle.fx_device.specs.Rules.{Meaning}
 use Rattle.fx_image.specs.declared.forms.Image.{Image}
-use Rattle.fx_run_whole.specs.Ran.{Gained}
+use Rattle.fx_run_core.specs.Ran.{Gained}
 use Rattle.fx_verdicts.specs.Lines.{line_of}
 use Rattle.fx_verdicts.specs.declared.verdict.Verdict.TheVariants.{Exited}
 use Rattle.fx_run_words.specs.Words.{RunGiven}

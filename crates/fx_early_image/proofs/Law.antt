@@ -12,15 +12,15 @@ use Rattle.fx_vm_pages.specs.Access.{access_check}
 use Rattle.fx_vm_pages.specs.declared.access.Access.TheVariants.{Write}
 use Rattle.fx_image.specs.Layout.{code_start}
 use Rattle.fx_image.specs.declared.forms.Image.{Image}
-use Rattle.fx_machine.specs.Layout.{page_entry}
-use Rattle.fx_machine.specs.Moves.{World, Move, move}
-use Rattle.fx_machine.specs.Running.{boot}
-use Rattle.fx_machine.specs.declared.stop.Stop.{Stop}
-use Rattle.fx_machine.specs.declared.stop.Stop.TheVariants as stops
-use Rattle.fx_machine.proofs.Pages.{Fits, fits}
-use Rattle.fx_machine.proofs.Regions.{use_stack}
-use Rattle.fx_machine.proofs.Standing.{HoldsCode, StandsAt, stored_keeps}
-use Rattle.fx_machine.proofs.Placing.{boot_code}
+use Rattle.fx_machine_model.specs.Layout.{page_entry}
+use Rattle.fx_machine_model.specs.Moves.{World, Move, move}
+use Rattle.fx_machine_model.specs.Running.{boot}
+use Rattle.fx_machine_model.specs.declared.stop.Stop.{Stop}
+use Rattle.fx_machine_model.specs.declared.stop.Stop.TheVariants as stops
+use Rattle.fx_machine_model.proofs.Pages.{Fits, fits}
+use Rattle.fx_machine_model.proofs.Regions.{use_stack}
+use Rattle.fx_machine_model.proofs.Standing.{HoldsCode, StandsAt, stored_keeps}
+use Rattle.fx_machine_model.proofs.Placing.{boot_code}
 use Rattle.fx_faithful.specs.Ends.{End, Exit, IsUndefined, Corresponds}
 use Rattle.fx_faithful.specs.Faith.{Faithful}
 use Rattle.fx_early_image.specs.Code.{console, range_bytes, code_bytes}

@@ -16,12 +16,12 @@ use Rattle.fx_cpu.specs.Does.{need, finish}
 use Rattle.fx_cpu.specs.declared.registers.Regs.{Regs}
 use Rattle.fx_image.specs.Layout.{code_start}
 use Rattle.fx_image.specs.declared.forms.Image.{Image}
-use Rattle.fx_machine.specs.Moves.{World, Move, move, perform}
-use Rattle.fx_machine.specs.declared.stop.Stop.{Stop}
-use Rattle.fx_machine.specs.declared.stop.Stop.TheVariants.{Exit}
-use Rattle.fx_machine.proofs.Pages.{Fits}
-use Rattle.fx_machine.proofs.Standing.{HoldsCode, StandsAt, executes}
-use Rattle.fx_machine.proofs.Executing.{quiet, writes_stack, reads_stack, writes_register}
+use Rattle.fx_machine_model.specs.Moves.{World, Move, move, perform}
+use Rattle.fx_machine_model.specs.declared.stop.Stop.{Stop}
+use Rattle.fx_machine_model.specs.declared.stop.Stop.TheVariants.{Exit}
+use Rattle.fx_machine_model.proofs.Pages.{Fits}
+use Rattle.fx_machine_model.proofs.Standing.{HoldsCode, StandsAt, executes}
+use Rattle.fx_machine_model.proofs.Executing.{quiet, writes_stack, reads_stack, writes_register}
 use Rattle.fx_early_image.specs.Code.{console, at_rax}
 use Rattle.fx_early_image.specs.Layout.{laid_out, first_rsp}
 use Rattle.fx_early_image.specs.Source.{console_store}

@@ -6,10 +6,10 @@ use Rattle.std.proofs.lemmas.List.{take-append-drop}
 use Rattle.fx_outcomes.specs.Runs.{Next, Goes, Stops, Outcome, within, expected}
 use Rattle.fx_outcomes.specs.Keeping.{IsPrefix, Keeps, Alike, Lost}
 use Rattle.fx_base.specs.declared.device_op.DeviceOp.{DeviceOp}
-use Rattle.fx_machine.specs.Running.{run_image}
-use Rattle.fx_machine.specs.Boot.{vcpus}
-use Rattle.fx_machine.specs.declared.stop.Stop.{Stop}
-use Rattle.fx_machine.specs.declared.stop.Stop.TheVariants as stops
+use Rattle.fx_machine_model.specs.Running.{run_image}
+use Rattle.fx_machine_model.specs.Boot.{vcpus}
+use Rattle.fx_machine_model.specs.declared.stop.Stop.{Stop}
+use Rattle.fx_machine_model.specs.declared.stop.Stop.TheVariants as stops
 use Rattle.fx_faithful.specs.Ends.{End, Exit, IsUndefined, Corresponds}
 use Rattle.fx_faithful.specs.Faith.{Faithful}
 use Rattle.fx_early_image.specs.Layout.{early_image}

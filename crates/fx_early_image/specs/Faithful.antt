@@ -1,8 +1,8 @@
 use Rattle.std.specs.Prelude.{ℕ, pos, ◌≡◌, ◌<◌, ◌≤◌, ◌^◌, List, length, map, All, Some}
 use Rattle.fx_outcomes.specs.Keeping.{IsPrefix}
-use Rattle.fx_machine.specs.Running.{run_image}
-use Rattle.fx_machine.specs.declared.stop.Stop.{Stop}
-use Rattle.fx_machine.specs.declared.stop.Stop.TheVariants.{Exit}
+use Rattle.fx_machine_model.specs.Running.{run_image}
+use Rattle.fx_machine_model.specs.declared.stop.Stop.{Stop}
+use Rattle.fx_machine_model.specs.declared.stop.Stop.TheVariants.{Exit}
 use Rattle.fx_image.specs.declared.find.Found.{Found}
 use Rattle.fx_image.specs.declared.find.Found.TheVariants as found
 use Rattle.fx_image.specs.declared.forms.Image.{Image}

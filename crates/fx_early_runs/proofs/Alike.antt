@@ -18,11 +18,11 @@ use Rattle.fx_vm_pages.specs.declared.access.Access.TheVariants.{Read, Write}
 use Rattle.fx_vm_pages.specs.declared.access.Refusal.{Refusal}
 use Rattle.fx_vm_pages.specs.Access.{access_check, page_of}
 use Rattle.fx_image.specs.declared.forms.Image.{Image}
-use Rattle.fx_machine.specs.Layout.{page_entry}
-use Rattle.fx_machine.specs.Moves.{World, Move, device_at, checked, read, write, perform_need, fetched, move_by, move}
-use Rattle.fx_machine.specs.declared.stop.Stop.{Stop}
-use Rattle.fx_machine.specs.declared.fetched.Fetched.{Fetched}
-use Rattle.fx_machine.specs.declared.fetched.Fetched.TheVariants.{Found, RefusedAt, Unspelled}
+use Rattle.fx_machine_model.specs.Layout.{page_entry}
+use Rattle.fx_machine_model.specs.Moves.{World, Move, device_at, checked, read, write, perform_need, fetched, move_by, move}
+use Rattle.fx_machine_model.specs.declared.stop.Stop.{Stop}
+use Rattle.fx_machine_model.specs.declared.fetched.Fetched.{Fetched}
+use Rattle.fx_machine_model.specs.declared.fetched.Fetched.TheVariants.{Found, RefusedAt, Unspelled}
 
 -- every operation is a store
 abbrev pub AreStores : List DeviceOp → Type 0

@@ -5,10 +5,10 @@ use Rattle.fx_base.specs.declared.device_op.DeviceOp.{DeviceOp}
 use Rattle.fx_outcomes.specs.Runs.{Next, Goes, Stops, Outcome, run, before, act, later, turns, after, nothing}
 use Rattle.fx_outcomes.specs.Many.{Many, turn}
 use Rattle.fx_cpu.specs.declared.registers.Regs.{Regs}
-use Rattle.fx_machine.specs.Moves.{World}
-use Rattle.fx_machine.specs.declared.stop.Stop.{Stop}
-use Rattle.fx_machine_whole.specs.Turns.{made_of}
-use Rattle.fx_run_whole.specs.Ran.{named, names}
+use Rattle.fx_machine_model.specs.Moves.{World}
+use Rattle.fx_machine_model.specs.declared.stop.Stop.{Stop}
+use Rattle.fx_machine.specs.Turns.{made_of}
+use Rattle.fx_run_core.specs.Ran.{named, names}
 
 -- the numbers of more turns begin with those of fewer
 names-more : (schedule : List ℕ) (n k : ℕ) → (more : List ℕ) × (names schedule (n + k) ≡ names schedule n ++ more)

@@ -9,20 +9,20 @@ use Rattle.fx_outcomes.specs.Keeping.{IsPrefix}
 use Rattle.fx_device.specs.Rules.{Meaning}
 use Rattle.fx_device.specs.Bus.{box_of}
 use Rattle.fx_image.specs.declared.forms.Image.{Image}
-use Rattle.fx_machine.specs.Boot.{boot_byte, boot_regs, vcpus}
-use Rattle.fx_machine.specs.Moves.{all_ones, move}
-use Rattle.fx_machine.specs.Running.{boot, run_image, image_turns, image_after}
-use Rattle.fx_machine.specs.declared.stop.Stop.{Stop}
-use Rattle.fx_machine.specs.declared.stop.Stop.TheVariants.{Exit}
-use Rattle.fx_machine_whole.specs.Acting.{answered}
-use Rattle.fx_machine_whole.specs.Turns.{made_of, taken_by, asked, console_load}
+use Rattle.fx_machine_model.specs.Boot.{boot_byte, boot_regs, vcpus}
+use Rattle.fx_machine_model.specs.Moves.{all_ones, move}
+use Rattle.fx_machine_model.specs.Running.{boot, run_image, image_turns, image_after}
+use Rattle.fx_machine_model.specs.declared.stop.Stop.{Stop}
+use Rattle.fx_machine_model.specs.declared.stop.Stop.TheVariants.{Exit}
+use Rattle.fx_machine.specs.Acting.{answered}
+use Rattle.fx_machine.specs.Turns.{made_of, taken_by, asked, console_load}
 use Rattle.fx_early_image.specs.Source.{console_store}
 use Rattle.fx_early_image.specs.Layout.{early_image}
 use Rattle.fx_early_image.specs.Faithful.{RunsWriteConstants}
 use Rattle.fx_run_outcomes.specs.declared.outcome.Outcome as outcomes
 use Rattle.fx_run_outcomes.specs.declared.outcome.Outcome.TheVariants.{Stopped, Spent, Device, ReadFault, WriteFault, OutOfMemory}
-use Rattle.fx_run_whole.specs.Ran.{named, names, outputs, stop_of, RunsTo, HasCause}
-use Rattle.fx_run_whole.proofs.Telling.{outputs-append}
+use Rattle.fx_run_core.specs.Ran.{named, names, outputs, stop_of, RunsTo, HasCause}
+use Rattle.fx_run_core.proofs.Telling.{outputs-append}
 use Rattle.fx_early_runs.specs.Plays.{IsOf, ones, stop_within, turns_within, Plays, EarlyRunsPlay}
 use Rattle.fx_early_runs.proofs.Alike.{AreStores, alike}
 use Rattle.fx_early_runs.proofs.Longer.{names-up_to, stopped-more, made-one_more}

@@ -4,14 +4,14 @@ use Rattle.fx_base.specs.declared.device_op.DeviceOp.{DeviceOp}
 use Rattle.fx_outcomes.specs.Keeping.{IsPrefix}
 use Rattle.fx_device.specs.Rules.{Meaning}
 use Rattle.fx_image.specs.declared.forms.Image.{Image}
-use Rattle.fx_machine.specs.Moves.{all_ones}
-use Rattle.fx_machine.specs.Running.{run_image, image_turns}
-use Rattle.fx_machine.specs.declared.stop.Stop.{Stop}
-use Rattle.fx_machine.specs.declared.stop.Stop.TheVariants.{Exit}
+use Rattle.fx_machine_model.specs.Moves.{all_ones}
+use Rattle.fx_machine_model.specs.Running.{run_image, image_turns}
+use Rattle.fx_machine_model.specs.declared.stop.Stop.{Stop}
+use Rattle.fx_machine_model.specs.declared.stop.Stop.TheVariants.{Exit}
 use Rattle.fx_early_image.specs.Layout.{early_image}
 use Rattle.fx_run_outcomes.specs.declared.outcome.Outcome.{Outcome}
 use Rattle.fx_run_outcomes.specs.declared.outcome.Outcome.TheVariants.{Stopped, Spent, WriteFault, OutOfMemory}
-use Rattle.fx_run_whole.specs.Ran.{names, outputs, RunsTo, HasCause}
+use Rattle.fx_run_core.specs.Ran.{names, outputs, RunsTo, HasCause}
 
 -- The image is that of these constants, at most 1,000 of 8 bits.
 pub record IsOf (constants : List ℕ) (image : Image) : Type 0 where

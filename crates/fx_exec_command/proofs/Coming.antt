@@ -9,8 +9,8 @@ use Rattle.fx_image.specs.declared.forms.Image.{Image}
 use Rattle.fx_early_runs.specs.Plays.{IsOf, Plays, EarlyRunsPlay}
 use Rattle.fx_run_outcomes.specs.declared.outcome.Outcome as outcomes
 use Rattle.fx_run_outcomes.specs.declared.outcome.Outcome.TheVariants.{Stopped, Spent, Device, ReadFault, WriteFault, OutOfMemory}
-use Rattle.fx_run_whole.specs.Ran.{outputs, Gained, GainedButLast, HasCause, Output}
-use Rattle.fx_run_whole.proofs.Telling.{told_map}
+use Rattle.fx_run_core.specs.Ran.{outputs, Gained, GainedButLast, HasCause, Output}
+use Rattle.fx_run_core.proofs.Telling.{told_map}
 use Rattle.fx_verdicts.specs.Verdicts.{verdict_of, stopped}
 use Rattle.fx_verdicts.specs.declared.verdict.Verdict.{Verdict}
 use Rattle.fx_run_words.specs.Words.{Given, ExecGiven}

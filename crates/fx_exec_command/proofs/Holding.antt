@@ -7,7 +7,7 @@ use Rattle.fx_image.specs.Spelling.{image_spelling}
 use Rattle.fx_image.specs.declared.forms.Image.{Image}
 use Rattle.fx_early_image.specs.Layout.{early_image}
 use Rattle.fx_early_image.specs.Faithful.{EarlyFaithful}
-use Rattle.fx_run_whole.proofs.Telling.{told_join}
+use Rattle.fx_run_core.proofs.Telling.{told_join}
 use Rattle.fx_run_command.specs.Causes.{HasContent}
 use Rattle.fx_exec_command.specs.declared.unbuilt.Unbuilt.{Unbuilt}
 use Rattle.fx_exec_command.specs.Lines.{source_name}

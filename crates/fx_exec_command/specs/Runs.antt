@@ -6,7 +6,7 @@ use Rattle.fx_outcomes.specs.Keeping.{IsPrefix}
 use Rattle.fx_device.specs.Rules.{Meaning}
 use Rattle.fx_image.specs.declared.forms.Image.{Image}
 use Rattle.fx_early_runs.specs.Plays.{stop_within, turns_within}
-use Rattle.fx_run_whole.specs.Ran.{Gained}
+use Rattle.fx_run_core.specs.Ran.{Gained}
 use Rattle.fx_verdicts.specs.declared.verdict.Verdict.{Verdict}
 use Rattle.fx_verdicts.specs.declared.verdict.Verdict.TheVariants.{Exited, Spent, WriteFault, OutOfMemory}
 use Rattle.fx_run_words.specs.Words.{Given}

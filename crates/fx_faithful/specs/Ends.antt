@@ -9,9 +9,9 @@ use Rattle.fx_image.specs.Layout.{object_at}
 use Rattle.fx_image.specs.declared.find.Found.{Found}
 use Rattle.fx_image.specs.declared.find.Found.TheVariants as found
 use Rattle.fx_image.specs.declared.forms.Image.{Image}
-use Rattle.fx_machine.specs.Layout.{is_ept}
-use Rattle.fx_machine.specs.declared.stop.Stop.{Stop}
-use Rattle.fx_machine.specs.declared.stop.Stop.TheVariants as stops
+use Rattle.fx_machine_model.specs.Layout.{is_ept}
+use Rattle.fx_machine_model.specs.declared.stop.Stop.{Stop}
+use Rattle.fx_machine_model.specs.declared.stop.Stop.TheVariants as stops
 
 -- The ends of a source's run, over the source's own objects:
 --   Exit         main returned; its value as a signed number of 64 bits

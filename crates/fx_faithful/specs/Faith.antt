@@ -5,9 +5,9 @@ use Rattle.fx_outcomes.specs.Keeping.{Keeps}
 use Rattle.fx_base.specs.declared.device_op.DeviceOp.{DeviceOp}
 use Rattle.fx_image.specs.declared.find.Found.{Found}
 use Rattle.fx_image.specs.declared.forms.Image.{Image}
-use Rattle.fx_machine.specs.Boot.{vcpus}
-use Rattle.fx_machine.specs.Running.{run_image}
-use Rattle.fx_machine.specs.declared.stop.Stop.{Stop}
+use Rattle.fx_machine_model.specs.Boot.{vcpus}
+use Rattle.fx_machine_model.specs.Running.{run_image}
+use Rattle.fx_machine_model.specs.declared.stop.Stop.{Stop}
 use Rattle.fx_faithful.specs.Ends.{End, IsUndefined, Corresponds}
 
 -- For all answers of devices and all schedules the image keeps to the source: each prefix of its

@@ -1,6 +1,9 @@
-pub mod Layout
-pub mod Boot
-pub mod Regions
-pub mod Moves
+pub mod Agree
+pub mod Reaching
+pub mod Memory
+pub mod Acting
 pub mod Turns
-pub mod Running
+pub mod Operations
+pub mod Lines
+pub mod Frames
+pub mod Filling

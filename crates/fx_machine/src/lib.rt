@@ -1,17 +1,24 @@
-//! What machines that run images are measured by.
+//! The machine that runs images, under every mechanism and with its devices.
 //!
-//! An image says what each page of each address space is, what memory and registers hold at boot,
-//! and how many vCPUs there are. One turn executes one whole instruction of one vCPU. The
-//! definitions (in `specs/`) are functions of the image: `page_entry` and `boot_byte` of the address
-//! layout, `move` of one turn, `run_image` of a schedule. The laws (in `proofs/`) say which entry each
-//! region's pages have, and what a turn does of an instruction that stands in the code. No machine is
-//! here: the code is what machines share, the bytes at boot, the keys and stacks of the layout, what a
-//! fetch finds, what a turn answers and why a machine stops. Processor and pages follow the Intel 64
-//! and IA-32 Architectures Software Developer's Manual in the subset of `fx_cpu` and `fx_vm_pages`;
-//! the layout, the devices and the stops are this project's own.
+//! What it does is defined in `fx_machine_model`: `page_entry` says what each page of each address space is,
+//! `boot_byte` what memory holds at boot, `move` what one instruction does. Every page's frame has the
+//! page's own number, so one byte stands at an address, whichever space it is seen from. This crate
+//! keeps the bytes that may change in four regions, the entries looked up last in a buffer, and the
+//! instructions of the code decoded.
 #![tactic(auto)]
 
+pub mod act;
 pub mod boot;
-pub mod fetched;
+pub mod check;
+pub mod code;
+pub mod fetch;
+pub mod filling;
+pub mod laws;
 pub mod layout;
-pub mod stop;
+pub mod machine;
+pub mod memory;
+pub mod operate;
+pub mod pages;
+
+pub use fx_machine_model::stop::{Stop, Turn};
+pub use machine::Machine;

@@ -13,8 +13,8 @@ mod image;
 use crate::image::image_of;
 use anyhow::{Context, Result};
 use fx_device::{BlockStore, Bus, Counter, Device, FailAt};
-use fx_machine::stop::Turn;
-use fx_machine_whole::machine::Machine;
+use fx_machine::machine::Machine;
+use fx_machine_model::stop::Turn;
 
 /// How many turns a word names, and of which vCPU.
 fn turns_of(word: &str) -> (u64, u64) {

@@ -6,7 +6,7 @@ use Rattle.fx_base.specs.declared.device_op.DeviceOp.{DeviceOp}
 use Rattle.fx_device.specs.Rules.{Meaning}
 use Rattle.fx_image.specs.declared.forms.Image.{Image}
 use Rattle.fx_run_outcomes.specs.declared.outcome.Outcome.{Outcome}
-use Rattle.fx_run_whole.specs.Ran.{RunsTo, HasCause, Output, Input}
+use Rattle.fx_run_core.specs.Ran.{RunsTo, HasCause, Output, Input}
 use Rattle.fx_verdicts.specs.Verdicts.{verdict_of}
 use Rattle.fx_verdicts.specs.declared.verdict.Verdict.{Verdict}
 use Rattle.fx_run_words.specs.Words.{Given, RunGiven}

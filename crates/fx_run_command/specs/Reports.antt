@@ -3,7 +3,7 @@ use Rattle.std.specs.Prelude.{◌≡◌, ℕ, List, Option, ◌⊎◌, Result, c
 use Rattle.fx_base.specs.Faults.{Rose}
 use Rattle.fx_base.specs.Told.{Told}
 use Rattle.fx_device.specs.Rules.{Meaning}
-use Rattle.fx_run_whole.specs.Ran.{Gained}
+use Rattle.fx_run_core.specs.Ran.{Gained}
 use Rattle.fx_run_words.specs.Words.{RunGiven}
 use Rattle.fx_run_command.specs.Comes.{Streams, Comes}
 use Rattle.fx_run_command.specs.Lines.{came_status, came_line}

@@ -12,7 +12,7 @@ use crate::load::{Unbegun, take_image, take_schedule};
 use fx_base::{Files, Sink, Source};
 use fx_device::Device;
 use fx_image::Image;
-use fx_run_whole::run::run;
+use fx_run_core::run::run;
 use fx_run_words::words::{Options, RunWords};
 use fx_verdicts::verdict::{Verdict, verdict_of};
 use std::alloc::Global;

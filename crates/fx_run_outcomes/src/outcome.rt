@@ -1,6 +1,6 @@
 //! How a run ends.
 
-use fx_machine::stop::Stop;
+use fx_machine_model::stop::Stop;
 
 /// How a run ended.
 #[derive(Clone, Copy, Debug, PartialEq, Eq)]

@@ -11,8 +11,8 @@ mod image;
 use crate::image::image_of;
 use anyhow::{Context, Result, bail};
 use fx_device::Bus;
-use fx_machine::stop::{Stop, Turn};
-use fx_machine_whole::machine::Machine;
+use fx_machine::machine::Machine;
+use fx_machine_model::stop::{Stop, Turn};
 use std::env;
 
 /// Makes turns until the machine stops, and gives the stop with the number of turns.

@@ -8,9 +8,9 @@ use Rattle.fx_image.specs.Layout.{object_at}
 use Rattle.fx_image.specs.declared.find.Found.{Found}
 use Rattle.fx_image.specs.declared.find.Found.TheVariants.{Object, Nothing}
 use Rattle.fx_image.specs.declared.forms.Image.{Image}
-use Rattle.fx_machine.specs.Layout.{is_ept}
-use Rattle.fx_machine.specs.declared.stop.Stop.{Stop}
-use Rattle.fx_machine.specs.declared.stop.Stop.TheVariants as stops
+use Rattle.fx_machine_model.specs.Layout.{is_ept}
+use Rattle.fx_machine_model.specs.declared.stop.Stop.{Stop}
+use Rattle.fx_machine_model.specs.declared.stop.Stop.TheVariants as stops
 use Rattle.fx_run_outcomes.specs.declared.outcome.Outcome.{Outcome}
 use Rattle.fx_run_outcomes.specs.declared.outcome.Outcome.TheVariants as outcomes
 use Rattle.fx_verdicts.specs.declared.verdict.Verdict.{Verdict}

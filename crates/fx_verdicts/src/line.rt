@@ -6,7 +6,7 @@ ghost use Rattle.fx_verdicts.specs.Lines.{name_in, place_words, stack_name, hex_
 
 use crate::verdict::Verdict;
 use fx_image::{Found, Image};
-use fx_machine::layout::has_halves;
+use fx_machine_model::layout::has_halves;
 use std::alloc::{AllocError, Global};
 
 /// Adds bytes at the end.

@@ -3,11 +3,11 @@
 ghost use Rattle.std.specs.Prelude.{◌≡◌};
 ghost use Rattle.fx_image.specs.Layout.{object_at};
 ghost use Rattle.fx_image.specs.Rules.{IsImage};
-ghost use Rattle.fx_machine.specs.Layout.{is_ept};
+ghost use Rattle.fx_machine_model.specs.Layout.{is_ept};
 ghost use Rattle.fx_verdicts.specs.Verdicts.{is_object, is_data, denies, is_write, refused, stopped, verdict_of, status_of};
 
 use fx_image::{Found, Image, object_of};
-use fx_machine::stop::Stop;
+use fx_machine_model::stop::Stop;
 use fx_run_outcomes::outcome::Outcome;
 use fx_vm_pages::access::{Access, Refusal};
 

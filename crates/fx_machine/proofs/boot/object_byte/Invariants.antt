@@ -1,6 +1,0 @@
-use Rattle.std.proofs.Common.{◌≡◌, drop}
-use Rattle.fx_machine.specs.Boot.{object_byte}
-use Rattle.fx_machine.proofs.boot.object_byte.Given as goal
-
-abbrev pub invariant-loop-object : goal.invariant-loop-object
-invariant-loop-object l = object_byte l.objects l.address ≡ object_byte (drop l.object-index l.objects) l.address

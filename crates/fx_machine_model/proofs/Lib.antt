@@ -1,0 +1,10 @@
+pub mod Checks
+pub mod Pages
+pub mod Regions
+pub mod Fetching
+pub mod Standing
+pub mod Executing
+pub mod Placing
+pub mod Bounds
+pub mod Bytes
+pub mod Writing

@@ -1,5 +1,0 @@
-use Rattle.std.proofs.Common.{length}
-use Rattle.fx_machine_whole.proofs.act.+holder.Given as goal
-
-abbrev pub decreases-holder : goal.decreases-holder
-decreases-holder l = length l.compartments.now
