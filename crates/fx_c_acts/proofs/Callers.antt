@@ -59,6 +59,13 @@ unwind_next fs i l e =
     let h = frame_at fs i l in
     ap unwind h.2 ∙ unwind_more h.0 (frames_of (drop (i + 1) fs)) (sym (ap caller_in h.1) ∙ e)
 
+-- the nearest caller, and the frames below it
+pub caller_below : (fs : List Frame) (i : ℕ) (call : RunCall) (b : Bool) → i < length fs → unwind (frames_of (drop i fs)) ≡ unwind (frames_of fs) → caller_in (slice_get fs i) ≡ Some (call, b) → unwind (frames_of fs) ≡ Caller (call_of call) b ∷ frames_of (drop (i + 1) fs)
+caller_below fs i call b l same e =
+    let h = frame_at fs i l in
+    let k = caller_frame h.0 (call, b) (sym (ap caller_in h.1) ∙ e) in
+    sym same ∙ ap unwind (h.2 ∙ ap (λ (f : states.Frame). f ∷ frames_of (drop (i + 1) fs)) k)
+
 extra_of : Bool → ℕ
 extra_of true = 2
 extra_of false = 0

@@ -1,3 +1,4 @@
 pub mod Cores
 pub mod Stepping
 pub mod Layers
+pub mod Uses

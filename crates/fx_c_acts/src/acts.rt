@@ -10,11 +10,13 @@ ghost use Rattle.fx_c_mean.specs.States.{Does};
 ghost use Rattle.fx_c_mean.specs.Steps.{perform, gives, gives_result, member_of, place_of};
 ghost use Rattle.fx_c_control.specs.Views.{act_of, frames_of};
 ghost use Rattle.fx_c_acts.specs.Cores.{state_of, Comes, NeedsNoDevice};
+ghost use Rattle.fx_c_acts.specs.Uses.{IsKnown};
 
 use crate::calls::value_at_end;
 use crate::jumps::judged;
 use crate::source::Source;
 use crate::state::{Core, Moved};
+use crate::uses::StackUse;
 use fx_c_ast::checked::Ty;
 use fx_c_ast::operator::Binop;
 use fx_c_blocks::fault::Fault;
@@ -26,8 +28,9 @@ use std::alloc::AllocError;
 
 impl<'p> Core<'p> {
     /// Makes a step that needs no device.
-    pub fn perform(&mut self, source: &Source<'p>, act: Act<'p>) -> Moved
-        requires { NeedsNoDevice act }
+    pub fn perform(&mut self, source: &Source<'p>, act: Act<'p>, known: Option<StackUse>) -> Moved
+        requires act { NeedsNoDevice act }
+        requires known { IsKnown (program_of source.now.program.now) source.now.rights known (frames_of self.old.frames) }
         ensures { Comes (perform (program_of source.now.program.now) source.now.rights 0 (state_of self.old) (Does (act_of act.entry) (frames_of self.old.frames))) result (state_of self.old) (state_of self.new) }
     {
         match act {
@@ -50,7 +53,7 @@ impl<'p> Core<'p> {
                 function,
                 way,
                 values,
-            } => self.enter(source, function, way, values),
+            } => self.enter(source, function, way, values, known),
             Act::Spawn(function, v) => self.spawn(function, v),
             Act::Switch(v) => self.switch(v),
             Act::Own => self.give(Value::Number(u64::from(self.current))),

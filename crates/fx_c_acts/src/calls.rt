@@ -9,9 +9,11 @@ ghost use Rattle.fx_c_mean.specs.States.{unwind, Caller};
 ghost use Rattle.fx_c_mean.specs.Steps.{taken, use_of, has_room, waiting_for, enter, leave, ended, return_extra, value_at_end as end_value, exit_value};
 ghost use Rattle.fx_c_control.specs.Views.{call_of, frames_of, values_of, way_of};
 ghost use Rattle.fx_c_acts.specs.Cores.{state_of, waits_for, with_caller, caller_in, taken_of, cells_for, local_object, Comes};
+ghost use Rattle.fx_c_acts.specs.Uses.{IsKnown};
 
 use crate::source::Source;
 use crate::state::{Core, Moved, Thread};
+use crate::uses::{StackUse, use_before};
 use fx_c_ast::checked::{TLocal, Ty};
 use fx_c_ast::operator::IntType;
 use fx_c_blocks::block::{Cells, Object, Place};
@@ -61,7 +63,7 @@ fn value_cells(alloc: Global, bytes: u32, v: Value) -> Result<Cells, AllocError>
 
 /// What waits for a call to return, where somebody does: the caller, with whether a gate between
 /// compartments was called.
-fn waiting(source: &Source<'_>, way: Way, caller: u32, f: u32) -> Option<bool>
+pub fn waiting(source: &Source<'_>, way: Way, caller: u32, f: u32) -> Option<bool>
     ensures { result ≡ waits_for (program_of source.now.program.now) source.now.rights (way_of way) caller f }
 {
     match way {
@@ -75,7 +77,7 @@ fn waiting(source: &Source<'_>, way: Way, caller: u32, f: u32) -> Option<bool>
 }
 
 /// What a waiting caller takes of a stack.
-fn taken_by(source: &Source<'_>, stack: u8, call: Call, crosses: bool) -> u64
+pub fn taken_by(source: &Source<'_>, stack: u8, call: Call, crosses: bool) -> u64
     ensures { result ≡ taken (program_of source.now.program.now) source.now.rights stack (call_of call) crosses }
 {
     if stack_number(source.program, &source.rights, call.function) != stack {
@@ -86,7 +88,7 @@ fn taken_by(source: &Source<'_>, stack: u8, call: Call, crosses: bool) -> u64
 }
 
 /// The caller that a frame is, with whether it waits for a gate between compartments.
-fn caller_at(frames: &Frames<'_>, place: usize) -> Option<(Call, bool)>
+pub fn caller_at(frames: &Frames<'_>, place: usize) -> Option<(Call, bool)>
     ensures { result ≡ caller_in (slice_get frames.now place) }
 {
     match frames.at(place) {
@@ -106,7 +108,7 @@ fn taken_at(source: &Source<'_>, frames: &Frames<'_>, place: usize, stack: u8) -
 }
 
 /// The use of a stack by the callers that wait, at most 2^64 - 1.
-fn used(source: &Source<'_>, frames: &Frames<'_>, stack: u8) -> u64
+pub fn used(source: &Source<'_>, frames: &Frames<'_>, stack: u8) -> u64
     ensures { result ≡ min (use_of (program_of source.now.program.now) source.now.rights stack (frames_of frames.now)) (2 ^ 64 - 1) }
 {
     let mut sum: u64 = 0;
@@ -118,7 +120,14 @@ fn used(source: &Source<'_>, frames: &Frames<'_>, stack: u8) -> u64
 
 impl<'p> Core<'p> {
     /// Whether a function's frame fits its stack.
-    fn has_room(&self, source: &Source<'p>, f: u32, waiting: Option<bool>) -> bool
+    fn has_room(
+        &self,
+        source: &Source<'p>,
+        f: u32,
+        waiting: Option<bool>,
+        known: Option<StackUse>,
+    ) -> bool
+        requires { IsKnown (program_of source.now.program.now) source.now.rights known (frames_of self.now.frames) }
         ensures { result ≡ has_room (program_of source.now.program.now) source.now.rights f (with_caller waiting (call_of self.now.call) (frames_of self.now.frames)) }
     {
         let stack = stack_number(source.program, &source.rights, f);
@@ -126,7 +135,7 @@ impl<'p> Core<'p> {
             Some(crosses) => taken_by(source, stack, self.call, crosses),
             None => 0,
         };
-        let needed = used(source, &self.frames, stack)
+        let needed = use_before(source, &self.frames, stack, known)
             .saturating_add(caller)
             .saturating_add(u64::from(source.frame(f)))
             .saturating_add(SPARE_BYTES);
@@ -134,11 +143,19 @@ impl<'p> Core<'p> {
     }
 
     /// A call of a function.
-    pub fn enter(&mut self, source: &Source<'p>, f: u32, way: Way, values: Values) -> Moved
+    pub fn enter(
+        &mut self,
+        source: &Source<'p>,
+        f: u32,
+        way: Way,
+        values: Values,
+        known: Option<StackUse>,
+    ) -> Moved
+        requires { IsKnown (program_of source.now.program.now) source.now.rights known (frames_of self.old.frames) }
         ensures { Comes (enter (program_of source.now.program.now) source.now.rights (state_of self.old) f (values_of values) (waiting_for (program_of source.now.program.now) source.now.rights (way_of way) f (call_of self.old.call) (frames_of self.old.frames))) result (state_of self.old) (state_of self.new) }
     {
         let waiting = waiting(source, way, self.call.function, f);
-        if !self.has_room(source, f, waiting) {
+        if !self.has_room(source, f, waiting, known) {
             return Moved::Stopped(End::StackFull {
                 thread: self.current,
                 stack: stack_number(source.program, &source.rights, f),

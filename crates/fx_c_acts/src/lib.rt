@@ -14,3 +14,4 @@ pub mod state;
 pub mod steps;
 mod tables;
 pub mod threads;
+pub mod uses;

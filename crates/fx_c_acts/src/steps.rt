@@ -7,9 +7,11 @@ ghost use Rattle.fx_c_mean.specs.Steps.{act_extra};
 ghost use Rattle.fx_c_control.specs.Views.{act_of, frames_of};
 ghost use Rattle.fx_c_acts.specs.Cores.{state_of};
 ghost use Rattle.fx_c_acts.specs.Stepping.{Steps, Tells};
+ghost use Rattle.fx_c_acts.specs.Uses.{IsKnownAt};
 
 use crate::source::Source;
 use crate::state::{Core, Moved};
+use crate::uses::StackUse;
 use fx_c_blocks::value::Value;
 use fx_c_control::control::settle;
 use fx_c_control::frames::{Act, Now};
@@ -38,13 +40,22 @@ pub enum Step {
 }
 
 impl<'p> Core<'p> {
-    /// Makes the next step, unless it is an operation on a device.
-    pub fn step(&mut self, source: &Source<'p>) -> Step
-        ensures { Steps (program_of source.now.program.now) source.now.rights (state_of self.old) (frames_of self.new.frames) result (state_of self.new) }
+    /// Makes the next step, unless it is an operation on a device. What is known of a stack is kept.
+    pub fn step(&mut self, source: &Source<'p>, known: &mut Option<StackUse>) -> Step
+        requires { IsKnownAt (program_of source.now.program.now) source.now.rights known.old (state_of self.old).spot }
+        ensures steps { Steps (program_of source.now.program.now) source.now.rights (state_of self.old) (frames_of self.new.frames) result (state_of self.new) }
+        ensures known { IsKnownAt (program_of source.now.program.now) source.now.rights known.new (state_of self.new).spot }
     {
         match self.settle() {
-            Some(act) => self.step_at(source, act),
-            None => Step::OutOfMemory,
+            Some(act) => {
+                let (step, after) = self.step_at(source, act, *known);
+                *known = after;
+                step
+            }
+            None => {
+                *known = None;
+                Step::OutOfMemory
+            }
         }
     }
 
@@ -60,20 +71,29 @@ impl<'p> Core<'p> {
         }
     }
 
-    /// Makes a step that is the next one, unless it is an operation on a device.
-    fn step_at(&mut self, source: &Source<'p>, act: Act<'p>) -> Step
-        requires { (state_of self.old).spot ≡ Does (act_of act) (frames_of self.old.frames) }
-        ensures { Steps (program_of source.now.program.now) source.now.rights (state_of self.old) (frames_of self.new.frames) result (state_of self.new) }
+    /// Makes a step that is the next one, unless it is an operation on a device, with what is known after it.
+    fn step_at(
+        &mut self,
+        source: &Source<'p>,
+        act: Act<'p>,
+        known: Option<StackUse>,
+    ) -> (Step, Option<StackUse>)
+        requires spot { (state_of self.old).spot ≡ Does (act_of act) (frames_of self.old.frames) }
+        requires known { IsKnownAt (program_of source.now.program.now) source.now.rights known (state_of self.old).spot }
+        ensures steps { Steps (program_of source.now.program.now) source.now.rights (state_of self.old) (frames_of self.new.frames) result.0 (state_of self.new) }
+        ensures known { IsKnownAt (program_of source.now.program.now) source.now.rights result.1 (state_of self.new).spot }
     {
         match act {
-            Act::Ask(device, register) => Step::Loads { device, register },
-            Act::Tell(device, register, v) => tell(device, register, v),
+            Act::Ask(device, register) => (Step::Loads { device, register }, known),
+            Act::Tell(device, register, v) => (tell(device, register, v), known),
             _ => {
+                let here = self.known_at(source, act, known);
+                let after = self.known_after(source, act, here);
                 let extra = self.extra(source, act);
-                match self.perform(source, act) {
-                    Moved::Went => Step::Went(extra),
-                    Moved::Stopped(end) => Step::Stopped(end, extra),
-                    Moved::OutOfMemory => Step::OutOfMemory,
+                match self.perform(source, act, here) {
+                    Moved::Went => (Step::Went(extra), after),
+                    Moved::Stopped(end) => (Step::Stopped(end, extra), None),
+                    Moved::OutOfMemory => (Step::OutOfMemory, None),
                 }
             }
         }

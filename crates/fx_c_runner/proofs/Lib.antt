@@ -1,3 +1,4 @@
 pub mod Starts
 pub mod Waiting
 pub mod Inputs
+pub mod Known

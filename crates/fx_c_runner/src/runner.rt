@@ -8,6 +8,7 @@ ghost use Rattle.fx_c_blocks.specs.declared.value.Value.TheVariants.{Number};
 ghost use Rattle.fx_c_mean.specs.States.{Does, Ask, Tell};
 ghost use Rattle.fx_c_control.specs.Views.{frames_of};
 ghost use Rattle.fx_c_acts.specs.Cores.{state_of};
+ghost use Rattle.fx_c_acts.specs.Uses.{IsKnownAt, IsKnownAt-prop};
 ghost use Rattle.fx_c_rights.specs.Rights.{rights_of as rights_from};
 ghost use Rattle.fx_c_runner.specs.Walks.{run_of, first_run, walk_of as walk_at, more_cost as cost_after, is_console, refusal, MakesStep, Walked, Waits, Gave};
 
@@ -16,6 +17,7 @@ use fx_base::DeviceOp;
 use fx_c_acts::source::{Source, source_of};
 use fx_c_acts::state::Core;
 use fx_c_acts::steps::Step;
+use fx_c_acts::uses::StackUse;
 use fx_c_ast::checked::TProgram;
 use fx_c_blocks::block::Place;
 use fx_c_blocks::value::Value;
@@ -97,6 +99,8 @@ pub struct Runner<'p> {
     bus: Bus,
     cost: u64,
     end: Option<End>,
+    known: Option<StackUse>,
+    ghost known_use: { IsKnownAt (program_of source.program.now) source.rights known (state_of core).spot } by { IsKnownAt-prop (program_of source.program.now) source.rights known (state_of core).spot },
 }
 
 // A function that has a condition puts no device of its own into a box, so its callers in other crates
@@ -140,6 +144,7 @@ impl<'p> Runner<'p> {
             bus,
             cost: 0,
             end: None,
+            known: None,
         })
     }
 
@@ -160,7 +165,7 @@ impl<'p> Runner<'p> {
         ensures made { MakesStep (run_of self.old.source self.old.core (bus_state (λ d. (⟦<dyn Device as Device>⟧ d.vtable).meaning d.value) self.old.bus.boxes self.old.bus.transcript.items) self.old.cost self.old.end) result (run_of self.new.source self.new.core (bus_state (λ d. (⟦<dyn Device as Device>⟧ d.vtable).meaning d.value) self.new.bus.boxes self.new.bus.transcript.items) self.new.cost self.new.end) }
         ensures law { (first : List (Option Meaning)) → BusLaw first (bus_state (λ d. (⟦<dyn Device as Device>⟧ d.vtable).meaning d.value) self.old.bus.boxes self.old.bus.transcript.items) → BusLaw first (bus_state (λ d. (⟦<dyn Device as Device>⟧ d.vtable).meaning d.value) self.new.bus.boxes self.new.bus.transcript.items) }
     {
-        match self.core.step(&self.source) {
+        match self.core.step(&self.source, &mut self.known) {
             Step::Went(extra) => {
                 self.cost = more_cost(self.cost, extra);
                 Walk::Went
