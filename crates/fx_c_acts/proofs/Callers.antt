@@ -9,11 +9,11 @@ use Rattle.fx_c_blocks.specs.declared.block.Object.{Object}
 use Rattle.std.specs.Prelude.{slice_get}
 use Rattle.fx_c_blocks.specs.declared.block.Place.TheVariants.{Local}
 use Rattle.fx_c_blocks.specs.declared.value.Value.{Value}
-use Rattle.fx_c_mean.specs.declared.rights.Rights.{Rights}
-use Rattle.fx_c_mean.specs.Programs.{Program, Variable, variable_of, call_objects}
-use Rattle.fx_c_mean.specs.States.{Way, Plainly, ByGate, First, Call, Caller, unwind, Does, Stuck, after_loop, next_round}
-use Rattle.fx_c_mean.specs.States as states
-use Rattle.fx_c_mean.specs.Steps.{use_of, waiting_for, return_extra}
+use Rattle.fx_c_mean_model.specs.declared.rights.Rights.{Rights}
+use Rattle.fx_c_mean_model.specs.Programs.{Program, Variable, variable_of, call_objects}
+use Rattle.fx_c_mean_model.specs.States.{Way, Plainly, ByGate, First, Call, Caller, unwind, Does, Stuck, after_loop, next_round}
+use Rattle.fx_c_mean_model.specs.States as states
+use Rattle.fx_c_mean_model.specs.Steps.{use_of, waiting_for, return_extra}
 use Rattle.fx_c_control.specs.declared.frames.Frame.{Frame}
 use Rattle.fx_c_control.specs.declared.frames.Frame.TheVariants as frame
 use Rattle.fx_c_control.specs.declared.frames.Call.{Call as RunCall}

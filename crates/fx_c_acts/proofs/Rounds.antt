@@ -14,7 +14,7 @@ use Rattle.fx_c_ast.specs.Layout.{members_layout, struct_layout, known_layouts, 
 use Rattle.fx_c_ast.specs.StackUse.{depth, slots_size, fs}
 use Rattle.fx_c_code.specs.Tables.{looked_up}
 use Rattle.fx_c_acts.specs.Layers.{layer, layers, all_layouts, slots_by, frame_by}
-use Rattle.fx_c_mean.specs.Programs.{Function, no_function, function_of}
+use Rattle.fx_c_mean_model.specs.Programs.{Function, no_function, function_of}
 
 -- ---- frames
 

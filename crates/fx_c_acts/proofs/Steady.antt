@@ -12,12 +12,12 @@ use Rattle.fx_c_blocks.specs.declared.block.Place.{Place}
 use Rattle.fx_c_blocks.specs.declared.fault.Fault.{Fault}
 use Rattle.fx_c_blocks.specs.Blocks.{width, byte_read, loaded, writable, offset_in, cells_of, written, moved}
 use Rattle.fx_c_blocks.specs.Operators.{unary_result, conversion, binary_result}
-use Rattle.fx_c_mean.specs.declared.end.End.TheVariants.{Denied, StackFull, ThreadsFull}
-use Rattle.fx_c_mean.specs.declared.rights.Rights.{Rights}
-use Rattle.fx_c_mean.specs.Rights.{may, stack_of}
-use Rattle.fx_c_mean.specs.Programs.{Program, function_at}
-use Rattle.fx_c_mean.specs.States.{Loop, While, For, Act, Call, Frame, Spot, Does, Truth, Push, SizeOf, GlobalAddress, LiteralAddress, LocalAddress, Load, Apply, Convert, Step, Combine, Decide, Judge, Enter, Ask, Tell, Spawn, Switch, Self, Store, ReadByte, WriteByte, Branch, Test, JumpBack, Break, Continue, Leave, FallOff, Stuck, Loads, Converts, Applies, Steps, Second, Combines, Decides, Arguments, Tells, Spawns, Switches, Target, Into, Discards, Forks, Tests, Answers, Then, Enters, Body, Third, Caller, type_of, is_lvalue, is_scalar, same_type, pointed, wanted, converting, reach, start, begin, begin_maybe, begin_all, after_body, begin_body, begin_loop, follow, loop_body, after_loop, next_round, unwind, assign, give}
-use Rattle.fx_c_mean.specs.Steps.{State, Outcome, if_value, granted, perform, told, stores, further, actor, at, gives, gives_result, spawn, new_thread, member_of, next_byte, decide, branch, tested, is_true, taken, use_of, has_room, waiting_for, entered, returned, left, value_at_end}
+use Rattle.fx_c_mean_model.specs.declared.end.End.TheVariants.{Denied, StackFull, ThreadsFull}
+use Rattle.fx_c_mean_model.specs.declared.rights.Rights.{Rights}
+use Rattle.fx_c_mean_model.specs.Rights.{may, stack_of}
+use Rattle.fx_c_mean_model.specs.Programs.{Program, function_at}
+use Rattle.fx_c_mean_model.specs.States.{Loop, While, For, Act, Call, Frame, Spot, Does, Truth, Push, SizeOf, GlobalAddress, LiteralAddress, LocalAddress, Load, Apply, Convert, Step, Combine, Decide, Judge, Enter, Ask, Tell, Spawn, Switch, Self, Store, ReadByte, WriteByte, Branch, Test, JumpBack, Break, Continue, Leave, FallOff, Stuck, Loads, Converts, Applies, Steps, Second, Combines, Decides, Arguments, Tells, Spawns, Switches, Target, Into, Discards, Forks, Tests, Answers, Then, Enters, Body, Third, Caller, type_of, is_lvalue, is_scalar, same_type, pointed, wanted, converting, reach, start, begin, begin_maybe, begin_all, after_body, begin_body, begin_loop, follow, loop_body, after_loop, next_round, unwind, assign, give}
+use Rattle.fx_c_mean_model.specs.Steps.{State, Outcome, if_value, granted, perform, told, stores, further, actor, at, gives, gives_result, spawn, new_thread, member_of, next_byte, decide, branch, tested, is_true, taken, use_of, has_room, waiting_for, entered, returned, left, value_at_end}
 use Rattle.fx_c_acts.specs.declared.uses.StackUse.{StackUse}
 use Rattle.fx_c_acts.specs.Uses.{HasUse, IsKnownAt, IsKnownAfter}
 

@@ -4,16 +4,16 @@ use Rattle.std.proofs.lemmas.List.{map-set, map-append, length-map}
 use Rattle.std.proofs.lemmas.Bool.{lt-ltb, ne_eqb}
 use Rattle.std.proofs.lemmas.Option.{slice_get-map, slice_get_past}
 use Rattle.std.specs.Prelude.{slice_get, option_map, if◌then◌else◌}
-use Rattle.fx_c_mean.specs.Steps as steps
+use Rattle.fx_c_mean_model.specs.Steps as steps
 use Rattle.fx_c_acts.specs.declared.state.Thread.{Thread}
 use Rattle.fx_c_acts.specs.declared.state.Thread.TheVariants as thread
 use Rattle.fx_outcomes.specs.Runs.{Goes, Stops}
 use Rattle.fx_c_blocks.specs.declared.block.Object.{Object}
 use Rattle.fx_c_blocks.specs.declared.value.Value.{Value}
 use Rattle.fx_c_blocks.specs.declared.value.Value.TheVariants.{Number, Void}
-use Rattle.fx_c_mean.specs.declared.end.End.TheVariants.{ThreadsFull, BadThread}
-use Rattle.fx_c_mean.specs.States.{Call, Frame, Spot, give}
-use Rattle.fx_c_mean.specs.Steps.{State, Outcome}
+use Rattle.fx_c_mean_model.specs.declared.end.End.TheVariants.{ThreadsFull, BadThread}
+use Rattle.fx_c_mean_model.specs.States.{Call, Frame, Spot, give}
+use Rattle.fx_c_mean_model.specs.Steps.{State, Outcome}
 use Rattle.fx_c_control.specs.declared.frames.Now.{Now}
 use Rattle.fx_c_control.specs.declared.frames.Frame.{Frame as RunFrame}
 use Rattle.fx_c_control.specs.declared.frames.Call.{Call as RunCall}

@@ -7,14 +7,14 @@ use Rattle.fx_c_blocks.specs.declared.block.Object.{Object}
 use Rattle.fx_c_blocks.specs.declared.value.Cell.{Cell}
 use Rattle.fx_c_blocks.specs.declared.value.Value.{Value}
 use Rattle.fx_c_blocks.specs.Blocks.{offset_in, cells_of}
-use Rattle.fx_c_mean.specs.declared.end.End.{End}
-use Rattle.fx_c_mean.specs.declared.end.End.TheVariants.{Denied}
-use Rattle.fx_c_mean.specs.declared.rights.Rights.{Rights}
-use Rattle.fx_c_mean.specs.Programs.{Program, size_in, zeros, live_object}
-use Rattle.fx_c_mean.specs.Rights.{may}
-use Rattle.fx_c_mean.specs.States.{Way, Plainly, ByGate, First, Call, Frame, Caller}
-use Rattle.fx_c_mean.specs.Steps as steps
-use Rattle.fx_c_mean.specs.Steps.{State, Outcome, crosses_by, taken}
+use Rattle.fx_c_mean_model.specs.declared.end.End.{End}
+use Rattle.fx_c_mean_model.specs.declared.end.End.TheVariants.{Denied}
+use Rattle.fx_c_mean_model.specs.declared.rights.Rights.{Rights}
+use Rattle.fx_c_mean_model.specs.Programs.{Program, size_in, zeros, live_object}
+use Rattle.fx_c_mean_model.specs.Rights.{may}
+use Rattle.fx_c_mean_model.specs.States.{Way, Plainly, ByGate, First, Call, Frame, Caller}
+use Rattle.fx_c_mean_model.specs.Steps as steps
+use Rattle.fx_c_mean_model.specs.Steps.{State, Outcome, crosses_by, taken}
 use Rattle.fx_c_control.specs.Views.{call_of, frames_of, spot_of}
 use Rattle.fx_c_control.specs.declared.frames.Act.{Act}
 use Rattle.fx_c_control.specs.declared.frames.Frame.{Frame as RunFrame}

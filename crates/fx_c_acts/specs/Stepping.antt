@@ -3,11 +3,11 @@ use Rattle.std.specs.Prelude.{◌≡◌, ℕ, List, []}
 use Rattle.fx_outcomes.specs.Runs.{Goes, Stops}
 use Rattle.fx_c_blocks.specs.declared.value.Value.{Value}
 use Rattle.fx_c_blocks.specs.declared.value.Value.TheVariants.{Number}
-use Rattle.fx_c_mean.specs.declared.end.End.TheVariants.{Undefined}
-use Rattle.fx_c_mean.specs.declared.rights.Rights.{Rights}
-use Rattle.fx_c_mean.specs.Programs.{Program}
-use Rattle.fx_c_mean.specs.States.{Frame, Does, Ask, Tell}
-use Rattle.fx_c_mean.specs.Steps.{State, step, extra}
+use Rattle.fx_c_mean_model.specs.declared.end.End.TheVariants.{Undefined}
+use Rattle.fx_c_mean_model.specs.declared.rights.Rights.{Rights}
+use Rattle.fx_c_mean_model.specs.Programs.{Program}
+use Rattle.fx_c_mean_model.specs.States.{Frame, Does, Ask, Tell}
+use Rattle.fx_c_mean_model.specs.Steps.{State, step, extra}
 use Rattle.fx_c_acts.specs.declared.steps.Step.{Step}
 use Rattle.fx_c_acts.specs.declared.steps.Step.TheVariants as made
 

@@ -2,10 +2,10 @@
 use Rattle.std.specs.Prelude.{◌≡◌, ℕ, List, ◌∷◌, Bool, Option, None, IfSome, ⊤}
 use Rattle.std.specs.Option.{MatchOption-prop}
 use Rattle.std.specs.Coded.{Unit-prop, Coded-set, coded_ℕ}
-use Rattle.fx_c_mean.specs.declared.rights.Rights.{Rights}
-use Rattle.fx_c_mean.specs.Programs.{Program}
-use Rattle.fx_c_mean.specs.States.{Act, Enter, Leave, FallOff, Switch, Call, Frame, Caller, Spot, Does, Stuck, unwind}
-use Rattle.fx_c_mean.specs.Steps.{use_of, waiting_for}
+use Rattle.fx_c_mean_model.specs.declared.rights.Rights.{Rights}
+use Rattle.fx_c_mean_model.specs.Programs.{Program}
+use Rattle.fx_c_mean_model.specs.States.{Act, Enter, Leave, FallOff, Switch, Call, Frame, Caller, Spot, Does, Stuck, unwind}
+use Rattle.fx_c_mean_model.specs.Steps.{use_of, waiting_for}
 use Rattle.fx_c_acts.specs.declared.uses.StackUse.{StackUse}
 
 -- what the callers that wait take of a stack; where no step follows it is what is asked

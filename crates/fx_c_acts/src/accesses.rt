@@ -3,9 +3,9 @@
 ghost use Rattle.std.specs.Prelude.{◌≡◌, ◌∷◌, ◌+◌, [], List, IfSome};
 ghost use Rattle.fx_c_ast.specs.CheckedTrees.{ty_tree};
 ghost use Rattle.fx_c_blocks.specs.Blocks.{cells_of, width};
-ghost use Rattle.fx_c_mean.specs.Programs.{program_of};
-ghost use Rattle.fx_c_mean.specs.States.{follow, Frame as MeantFrame};
-ghost use Rattle.fx_c_mean.specs.Steps.{loads, stores, reads_byte, next_byte as follows_byte, further as goes_on};
+ghost use Rattle.fx_c_mean_model.specs.Programs.{program_of};
+ghost use Rattle.fx_c_mean_model.specs.States.{follow, Frame as MeantFrame};
+ghost use Rattle.fx_c_mean_model.specs.Steps.{loads, stores, reads_byte, next_byte as follows_byte, further as goes_on};
 ghost use Rattle.fx_c_control.specs.Views.{frames_of, spot_of};
 ghost use Rattle.fx_c_acts.specs.Cores.{state_of, denied, Comes};
 
@@ -18,7 +18,7 @@ use fx_c_blocks::memory::offset_of;
 use fx_c_blocks::value::{Cell, Pointer, Value};
 use fx_c_code::code::{home_of, is_granted};
 use fx_c_control::frames::{Act, Now};
-use fx_c_mean::end::End;
+use fx_c_mean_model::end::End;
 
 impl<'p> Core<'p> {
     /// The end of the run where the compartment that acts is not granted an access.

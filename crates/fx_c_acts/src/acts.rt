@@ -5,9 +5,9 @@ ghost use Rattle.fx_c_ast.specs.CheckedTrees.{ty_tree, struct_types};
 ghost use Rattle.fx_c_blocks.specs.Operators.{binary_result};
 ghost use Rattle.fx_c_blocks.specs.Blocks.{moved};
 ghost use Rattle.fx_c_blocks.specs.declared.value.Value.TheVariants.{Number};
-ghost use Rattle.fx_c_mean.specs.Programs.{program_of, size_in};
-ghost use Rattle.fx_c_mean.specs.States.{Does};
-ghost use Rattle.fx_c_mean.specs.Steps.{perform, gives, gives_result, member_of, place_of};
+ghost use Rattle.fx_c_mean_model.specs.Programs.{program_of, size_in};
+ghost use Rattle.fx_c_mean_model.specs.States.{Does};
+ghost use Rattle.fx_c_mean_model.specs.Steps.{perform, gives, gives_result, member_of, place_of};
 ghost use Rattle.fx_c_control.specs.Views.{act_of, frames_of};
 ghost use Rattle.fx_c_acts.specs.Cores.{state_of, Comes, NeedsNoDevice};
 ghost use Rattle.fx_c_acts.specs.Uses.{IsKnown};
@@ -23,7 +23,7 @@ use fx_c_blocks::fault::Fault;
 use fx_c_blocks::operators::{combine_integers, unary};
 use fx_c_blocks::value::{Pointer, Value};
 use fx_c_control::frames::Act;
-use fx_c_mean::end::End;
+use fx_c_mean_model::end::End;
 use std::alloc::AllocError;
 
 impl<'p> Core<'p> {

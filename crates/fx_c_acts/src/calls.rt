@@ -4,9 +4,9 @@ ghost use Rattle.std.specs.Prelude.{◌≡◌, ◌≢◌, ◌-◌, ◌^◌, ◌+
 ghost use Rattle.fx_c_ast.specs.CheckedTrees.{ty_tree};
 ghost use Rattle.fx_c_blocks.specs.Blocks.{cells_of};
 ghost use Rattle.fx_c_blocks.specs.declared.value.Value.TheVariants.{Void};
-ghost use Rattle.fx_c_mean.specs.Programs.{program_of, function_at, call_objects};
-ghost use Rattle.fx_c_mean.specs.States.{unwind, Caller};
-ghost use Rattle.fx_c_mean.specs.Steps.{taken, use_of, has_room, waiting_for, enter, leave, ended, return_extra, value_at_end as end_value, exit_value};
+ghost use Rattle.fx_c_mean_model.specs.Programs.{program_of, function_at, call_objects};
+ghost use Rattle.fx_c_mean_model.specs.States.{unwind, Caller};
+ghost use Rattle.fx_c_mean_model.specs.Steps.{taken, use_of, has_room, waiting_for, enter, leave, ended, return_extra, value_at_end as end_value, exit_value};
 ghost use Rattle.fx_c_control.specs.Views.{call_of, frames_of, values_of, way_of};
 ghost use Rattle.fx_c_acts.specs.Cores.{state_of, waits_for, with_caller, caller_in, taken_of, cells_for, local_object, Comes};
 ghost use Rattle.fx_c_acts.specs.Uses.{IsKnown};
@@ -23,7 +23,7 @@ use fx_c_blocks::value::{Cell, Value};
 use fx_c_code::code::{home_of, stack_bytes, stack_number};
 use fx_c_control::control::Frames;
 use fx_c_control::frames::{Call, Frame, Now, Values, Way};
-use fx_c_mean::end::End;
+use fx_c_mean_model::end::End;
 use std::alloc::{AllocError, Global};
 
 /// What a waiting caller takes of a stack beside its frame, where a gate between compartments waits.

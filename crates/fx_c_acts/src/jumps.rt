@@ -2,8 +2,8 @@
 
 ghost use Rattle.std.specs.Prelude.{◌≡◌, List};
 ghost use Rattle.fx_c_ast.specs.CheckedTrees.{texpr_tree, tstmt_tree};
-ghost use Rattle.fx_c_mean.specs.States.{after_loop, next_round, begin_loop, Frame as MeantFrame};
-ghost use Rattle.fx_c_mean.specs.Steps.{at, is_true, truth_value, decide, branch, tested};
+ghost use Rattle.fx_c_mean_model.specs.States.{after_loop, next_round, begin_loop, Frame as MeantFrame};
+ghost use Rattle.fx_c_mean_model.specs.Steps.{at, is_true, truth_value, decide, branch, tested};
 ghost use Rattle.fx_c_control.specs.Views.{frames_of, spot_of, loop_at, first_branch, second_branch};
 ghost use Rattle.fx_c_acts.specs.Cores.{state_of, Comes};
 

@@ -2,8 +2,8 @@
 
 ghost use Rattle.std.specs.Prelude.{◌≡◌, [], IfOk, MatchOption, map, pos, slice_index_or};
 ghost use Rattle.fx_c_ast.specs.CheckedTrees.{VoidTy, ty_tree, tstmt_trees, member_types, struct_types};
-ghost use Rattle.fx_c_mean.specs.Programs.{Function, program_of, function_at, variable_of, size_in, offset_of};
-ghost use Rattle.fx_c_mean.specs.Steps.{member_of};
+ghost use Rattle.fx_c_mean_model.specs.Programs.{Function, program_of, function_at, variable_of, size_in, offset_of};
+ghost use Rattle.fx_c_mean_model.specs.Steps.{member_of};
 ghost use Rattle.fx_c_acts.specs.Layers.{all_layouts};
 
 use crate::tables::{frames_of, layouts_of};
@@ -11,7 +11,7 @@ use fx_c_ast::checked::{TLocal, TMember, TProgram, TStmt, Ty};
 use fx_c_ast::layout::Layout;
 use fx_c_code::code::function;
 use fx_c_code::layouts::{layout, member_offset};
-use fx_c_mean::rights::Rights;
+use fx_c_mean_model::rights::Rights;
 use std::alloc::{AllocError, Global};
 
 /// A program with its rights, the layouts of its structs and the stack use of its functions.

@@ -1,7 +1,7 @@
 //! The state of a run, and steps that give a value.
 
 ghost use Rattle.std.specs.Prelude.{◌≡◌};
-ghost use Rattle.fx_c_mean.specs.Steps.{gives, gives_result, end_of as ends};
+ghost use Rattle.fx_c_mean_model.specs.Steps.{gives, gives_result, end_of as ends};
 ghost use Rattle.fx_c_control.specs.Views.{frames_of};
 ghost use Rattle.fx_c_acts.specs.Cores.{state_of, Comes};
 
@@ -10,7 +10,7 @@ use fx_c_blocks::memory::Memory;
 use fx_c_blocks::value::Value;
 use fx_c_control::control::Frames;
 use fx_c_control::frames::{Call, Now};
-use fx_c_mean::end::End;
+use fx_c_mean_model::end::End;
 use std::alloc::Global;
 
 /// A thread that was made: it runs now, it waits, or it has ended.

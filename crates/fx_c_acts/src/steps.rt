@@ -1,9 +1,9 @@
 //! The next step.
 
 ghost use Rattle.std.specs.Prelude.{◌≡◌, IfSome};
-ghost use Rattle.fx_c_mean.specs.Programs.{program_of};
-ghost use Rattle.fx_c_mean.specs.States.{Does};
-ghost use Rattle.fx_c_mean.specs.Steps.{act_extra};
+ghost use Rattle.fx_c_mean_model.specs.Programs.{program_of};
+ghost use Rattle.fx_c_mean_model.specs.States.{Does};
+ghost use Rattle.fx_c_mean_model.specs.Steps.{act_extra};
 ghost use Rattle.fx_c_control.specs.Views.{act_of, frames_of};
 ghost use Rattle.fx_c_acts.specs.Cores.{state_of};
 ghost use Rattle.fx_c_acts.specs.Stepping.{Steps, Tells};
@@ -15,7 +15,7 @@ use crate::uses::StackUse;
 use fx_c_blocks::value::Value;
 use fx_c_control::control::settle;
 use fx_c_control::frames::{Act, Now};
-use fx_c_mean::end::End;
+use fx_c_mean_model::end::End;
 
 /// What the next step is, or came to. A step that was made has what it costs beyond one unit.
 #[derive(Clone, Copy)]

@@ -4,7 +4,7 @@ ghost use Rattle.std.specs.Prelude.{◌≡◌, ◌+◌, IfOk, IfSome, IsTrue, ma
 ghost use Rattle.fx_c_ast.specs.CheckedTrees.{struct_types};
 ghost use Rattle.fx_c_ast.specs.Layout.{round_up};
 ghost use Rattle.fx_c_code.specs.Tables.{looked_up};
-ghost use Rattle.fx_c_mean.specs.Programs.{Function, program_of};
+ghost use Rattle.fx_c_mean_model.specs.Programs.{Function, program_of};
 ghost use Rattle.fx_c_acts.specs.Layers.{layer, all_layouts, slots_by, frame_by};
 
 use fx_c_ast::checked::{TFunction, TLocal, TProgram, TStruct};

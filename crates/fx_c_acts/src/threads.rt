@@ -1,7 +1,7 @@
 //! Steps of threads.
 
 ghost use Rattle.std.specs.Prelude.{◌≡◌, ◌≢◌, ◌∷◌, ◌++◌, ◌<◌, [], Some, MatchResult, slice_get, slice_set, vec_len};
-ghost use Rattle.fx_c_mean.specs.Steps.{spawn, switch, resume};
+ghost use Rattle.fx_c_mean_model.specs.Steps.{spawn, switch, resume};
 ghost use Rattle.fx_c_control.specs.Views.{frames_of, values_of};
 ghost use Rattle.fx_c_acts.specs.Cores.{state_of, thread_of, Comes};
 
@@ -9,7 +9,7 @@ use crate::state::{Core, Moved, Thread};
 use fx_c_blocks::value::Value;
 use fx_c_control::frames::{ARGUMENTS, Act, Call, Now, Values, Way};
 use fx_c_control::stack::Stack;
-use fx_c_mean::end::End;
+use fx_c_mean_model::end::End;
 use std::alloc::AllocError;
 use std::mem;
 

@@ -2,9 +2,9 @@
 //! look at each frame of its thread.
 
 ghost use Rattle.std.specs.Prelude.{◌≡◌, ◌-◌, ◌^◌, min};
-ghost use Rattle.fx_c_mean.specs.Programs.{program_of};
-ghost use Rattle.fx_c_mean.specs.States.{Does};
-ghost use Rattle.fx_c_mean.specs.Steps.{use_of, waiting_for};
+ghost use Rattle.fx_c_mean_model.specs.Programs.{program_of};
+ghost use Rattle.fx_c_mean_model.specs.States.{Does};
+ghost use Rattle.fx_c_mean_model.specs.Steps.{use_of, waiting_for};
 ghost use Rattle.fx_c_control.specs.Views.{act_of, call_of, frames_of, way_of};
 ghost use Rattle.fx_c_acts.specs.Cores.{state_of};
 ghost use Rattle.fx_c_acts.specs.Uses.{IsKnown, IsKnownAt, IsKnownBelow, IsKnownAfter};

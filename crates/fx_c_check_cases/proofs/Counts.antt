@@ -1,9 +1,9 @@
 -- How many declarations files have.
 use Rattle.std.proofs.Common.{◌≡◌, ℕ, suc, ◌+◌, ◌<◌, refl, ap, ◌∙◌, List, [], ◌∷◌, length, drop, get_or, length-append}
 use Rattle.fx_c_ast.specs.declared.parsed.Decl.{Decl}
-use Rattle.fx_c_check.specs.declared.program.SourceFile.{SourceFile}
-use Rattle.fx_c_check.specs.ProgramView.{placed_in, declarations}
-use Rattle.fx_c_check.proofs.Lists.{split}
+use Rattle.fx_c_types.specs.declared.program.SourceFile.{SourceFile}
+use Rattle.fx_c_types.specs.ProgramView.{placed_in, declarations}
+use Rattle.fx_c_types.proofs.Lists.{split}
 
 length-placed_in : (library : ℕ) (ds : List Decl) → length (placed_in library ds) ≡ length ds
 length-placed_in library [] = refl

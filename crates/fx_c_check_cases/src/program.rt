@@ -1,11 +1,11 @@
 //! A program of the input, and what the checker answers to it.
 
 ghost use Rattle.std.specs.Prelude.{◌<◌, ◌^◌, length, IsTrue};
-ghost use Rattle.fx_c_check.specs.ProgramView.{declarations};
+ghost use Rattle.fx_c_types.specs.ProgramView.{declarations};
 
 use crate::trees::append_bodies;
-use fx_c_check::{SourceFile, TypeError, check};
 use fx_c_parse::parse;
+use fx_c_types::{SourceFile, TypeError, check};
 use std::alloc::{AllocError, Global};
 
 /// A source text with the number of its library.

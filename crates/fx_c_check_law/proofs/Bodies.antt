@@ -20,7 +20,7 @@ use Rattle.fx_c_typing.specs.Calls.{joined, putc, device_store, switch}
 use Rattle.fx_c_heads.specs.Written.{ty_of}
 use Rattle.fx_c_heads.specs.Sizes.{known}
 use Rattle.fx_c_heads.specs.Heads.{object_type}
-use Rattle.fx_c_types.specs.Bodies.{ScopeTree, BodyTree, then_in, variable, text_node, cast_node, size_of_type, callee, call, gate, spawn, typed, typed_all, innermost, entered, left, with_local, with_name, started, assigned_start, declared_local, local, place_16, returned, maybe_typed, maybe_condition, return_node, followed, checked, checked_maybe, checked_all}
+use Rattle.fx_c_bodies.specs.Bodies.{ScopeTree, BodyTree, then_in, variable, text_node, cast_node, size_of_type, callee, call, gate, spawn, typed, typed_all, innermost, entered, left, with_local, with_name, started, assigned_start, declared_local, local, place_16, returned, maybe_typed, maybe_condition, return_node, followed, checked, checked_maybe, checked_all}
 use Rattle.fx_c_check_law.proofs.Ends.{Ends, bind_ends, demand_ends, weaker}
 use Rattle.fx_c_check_law.proofs.Heads.{IsSizedLocal, object_ends}
 

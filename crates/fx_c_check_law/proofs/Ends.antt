@@ -3,8 +3,8 @@ use Rattle.std.proofs.Common.{◌≡◌, ℕ, Bool, true, false, refl, Result, O
 use Rattle.fx_c_typing.specs.declared.fault.TypeKind.{TypeKind}
 use Rattle.fx_c_typing.specs.declared.fault.Fault.TheVariants as fault
 use Rattle.fx_c_typing.specs.Checks.{Checked, ◌>>=◌, demand}
-use Rattle.fx_c_check.specs.declared.fault.TypeError.{TypeError}
-use Rattle.fx_c_check.specs.Programs.{at_declaration, ◌>>>◌}
+use Rattle.fx_c_types.specs.declared.fault.TypeError.{TypeError}
+use Rattle.fx_c_types.specs.Programs.{at_declaration, ◌>>>◌}
 
 abbrev pub Ends : {A E : Type 0} → (A → Type 0) → Result A E → Type 0
 Ends P (Ok x) = P x

@@ -26,7 +26,7 @@ use Rattle.fx_c_typing.specs.Locals.{LocalTree, local_trees}
 use Rattle.fx_c_heads.specs.Sizes.{known}
 use Rattle.fx_c_typing.specs.Types.{category}
 use Rattle.fx_c_heads.specs.Heads.{GlobalHead, FunctionHead, is_initial}
-use Rattle.fx_c_types.specs.Bodies.{place_16}
+use Rattle.fx_c_bodies.specs.Bodies.{place_16}
 use Rattle.fx_c_heads.specs.HeadsView.{global_tree, global_heads}
 use Rattle.fx_c_heads.proofs.Fields.{types_are, length-struct_trees}
 use Rattle.fx_c_frames.specs.Frames.{slots_size}
@@ -34,10 +34,10 @@ use Rattle.fx_grants.specs.declared.grants.Grants.{Grants}
 use Rattle.fx_shadow.specs.Frames.{HasFrame, HasFrames}
 use Rattle.fx_sections.specs.Initials.{before_used, used_bytes, initial_bytes}
 use Rattle.fx_sections.specs.Placement.{IsPlaceable, initial_total, literal_sizes}
-use Rattle.fx_c_check.specs.Programs as program
-use Rattle.fx_c_check.specs.Programs.{ProgramTree, has_none, gives_status}
-use Rattle.fx_c_check.specs.ProgramView.{declarations, function_tree, function_trees, program_tree}
-use Rattle.fx_c_check.specs.declared.program.SourceFile.{SourceFile}
+use Rattle.fx_c_types.specs.Programs as program
+use Rattle.fx_c_types.specs.Programs.{ProgramTree, has_none, gives_status}
+use Rattle.fx_c_types.specs.ProgramView.{declarations, function_tree, function_trees, program_tree}
+use Rattle.fx_c_types.specs.declared.program.SourceFile.{SourceFile}
 use Rattle.fx_c_check_law.specs.Jumps.{all_inside}
 use Rattle.fx_c_check_law.specs.WellTyped.{WellTyped}
 use Rattle.fx_c_check_law.proofs.Known.{Agree, Describes, type_same, sized_same, table_is, structs_sized}

@@ -1,11 +1,11 @@
 -- Files mean one program, or break one rule first.
 use Rattle.std.proofs.Common.{◌≡◌, ◌⊎◌, ℕ, List, Result, Ok, Err, refl, inl, inr}
 use Rattle.fx_c_typing.specs.declared.fault.TypeKind.{TypeKind}
-use Rattle.fx_c_check.specs.declared.fault.TypeError.{TypeError}
-use Rattle.fx_c_check.specs.declared.fault.TypeError.TheVariants.{Rule, OutOfMemory}
-use Rattle.fx_c_check.specs.declared.program.SourceFile.{SourceFile}
-use Rattle.fx_c_check.specs.Programs.{ProgramTree, well_typed}
-use Rattle.fx_c_check.specs.ProgramView.{declarations}
+use Rattle.fx_c_types.specs.declared.fault.TypeError.{TypeError}
+use Rattle.fx_c_types.specs.declared.fault.TypeError.TheVariants.{Rule, OutOfMemory}
+use Rattle.fx_c_types.specs.declared.program.SourceFile.{SourceFile}
+use Rattle.fx_c_types.specs.Programs.{ProgramTree, well_typed}
+use Rattle.fx_c_types.specs.ProgramView.{declarations}
 use Rattle.fx_c_check_law.specs.WellTyped.{Means, BreaksRule}
 use Rattle.fx_c_check_law.proofs.Tells.{Names, program_names}
 

@@ -10,7 +10,7 @@ use Rattle.fx_c_typing.specs.Values.{value_of, condition, assigned}
 use Rattle.fx_c_typing.specs.Structs.{place_32}
 use Rattle.fx_c_heads.specs.Written.{ty_of}
 use Rattle.fx_c_heads.specs.Heads.{object_type}
-use Rattle.fx_c_types.specs.Bodies.{ScopeTree, BodyTree, typed, innermost, entered, left, with_local, with_name, started, assigned_start, declared_local, place_16, returned, maybe_typed, maybe_condition, return_node, followed, checked, checked_maybe, checked_all}
+use Rattle.fx_c_bodies.specs.Bodies.{ScopeTree, BodyTree, typed, innermost, entered, left, with_local, with_name, started, assigned_start, declared_local, place_16, returned, maybe_typed, maybe_condition, return_node, followed, checked, checked_maybe, checked_all}
 use Rattle.fx_c_check_law.specs.Jumps.{jumps_inside, maybe_inside, all_inside}
 use Rattle.fx_c_check_law.proofs.Ends.{Ends, bind_ends, demand_ends}
 

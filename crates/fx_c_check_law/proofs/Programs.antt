@@ -13,9 +13,9 @@ use Rattle.fx_c_frames.specs.Frames.{frame_size}
 use Rattle.fx_c_names.specs.Names.{found}
 use Rattle.fx_c_heads.specs.Sizes.{known}
 use Rattle.fx_c_heads.specs.Heads.{HeadsTree, FunctionHead, no_heads, head}
-use Rattle.fx_c_types.specs.Bodies.{ScopeTree, BodyTree, checked_all, place_16}
-use Rattle.fx_c_check.specs.Programs as program
-use Rattle.fx_c_check.specs.Programs.{PlacedDecl, ProgramTree, at_declaration, ◌>>>◌, tags_of, heads_of, body_from, BodiesTree, no_bodies, function_of, with_function, finished, scope_of, function_body, next_body, body_of, bodies_of, is_start, main_at, main_of, main_number, program_of, well_typed}
+use Rattle.fx_c_bodies.specs.Bodies.{ScopeTree, BodyTree, checked_all, place_16}
+use Rattle.fx_c_types.specs.Programs as program
+use Rattle.fx_c_types.specs.Programs.{PlacedDecl, ProgramTree, at_declaration, ◌>>>◌, tags_of, heads_of, body_from, BodiesTree, no_bodies, function_of, with_function, finished, scope_of, function_body, next_body, body_of, bodies_of, is_start, main_at, main_of, main_number, program_of, well_typed}
 use Rattle.fx_c_check_law.proofs.Ends.{Ends, bind_ends, then_ends, demand_ends, at_ends, weaker, both_end}
 use Rattle.fx_c_check_law.proofs.Heads.{IsSizedLocal, HasScalars, IsSound, none_sound, structs_in, functions_in, Follows, head_ends}
 use Rattle.fx_c_check_law.specs.Jumps.{all_inside}

@@ -25,10 +25,10 @@ use Rattle.fx_c_typing.specs.Calls.{arguments, putc, device_store, switch}
 use Rattle.fx_c_heads.specs.Written.{ty_of}
 use Rattle.fx_c_heads.specs.Heads.{HeadsTree, FunctionHead, is_declared, repeats, param_names, is_answer, are_params, params_of, with_function, no_heads, object_type, members_behind, struct_layout, head}
 use Rattle.fx_c_names.specs.Names.{found}
-use Rattle.fx_c_types.specs.Bodies.{ScopeTree, BodyTree, then_in, global_node, variable_node, variable, local_named, cast_type, cast_node, size_of_type, CalleeTree, callee, call, gate, is_long, are_one_long, first_value, spawn, typed, typed_all, innermost, with_local, with_name, place_16, started, assigned_start, declared_local, local, returned, maybe_typed, maybe_condition, return_node, checked, checked_maybe, checked_all}
-use Rattle.fx_c_check.specs.declared.fault.TypeError.{TypeError}
-use Rattle.fx_c_check.specs.declared.fault.TypeError.TheVariants as error
-use Rattle.fx_c_check.specs.Programs.{PlacedDecl, at_declaration, ◌>>>◌, tags_of, heads_of, BodiesTree, no_bodies, function_body, body_of, bodies_of, main_at, main_of, main_number, well_typed}
+use Rattle.fx_c_bodies.specs.Bodies.{ScopeTree, BodyTree, then_in, global_node, variable_node, variable, local_named, cast_type, cast_node, size_of_type, CalleeTree, callee, call, gate, is_long, are_one_long, first_value, spawn, typed, typed_all, innermost, with_local, with_name, place_16, started, assigned_start, declared_local, local, returned, maybe_typed, maybe_condition, return_node, checked, checked_maybe, checked_all}
+use Rattle.fx_c_types.specs.declared.fault.TypeError.{TypeError}
+use Rattle.fx_c_types.specs.declared.fault.TypeError.TheVariants as error
+use Rattle.fx_c_types.specs.Programs.{PlacedDecl, at_declaration, ◌>>>◌, tags_of, heads_of, BodiesTree, no_bodies, function_body, body_of, bodies_of, main_at, main_of, main_number, well_typed}
 
 -- it is never for want of memory that it gives nothing
 Tells : {A : Type 0} → Checked A → Type 0

@@ -8,11 +8,11 @@ use Rattle.fx_c_typing.specs.Types.{category}
 use Rattle.fx_shadow.specs.Frames.{HasFrames}
 use Rattle.fx_grants.specs.declared.grants.Grants.{Grants}
 use Rattle.fx_sections.specs.Placement.{IsPlaceable}
-use Rattle.fx_c_check.specs.declared.program.SourceFile.{SourceFile}
+use Rattle.fx_c_types.specs.declared.program.SourceFile.{SourceFile}
 use Rattle.fx_c_check_law.specs.Jumps.{all_inside}
 use Rattle.fx_c_check_law.specs.WellTyped.{WellTyped}
-use Rattle.fx_c_check.specs.Programs.{gives_status}
-use Rattle.fx_c_check.specs.ProgramView.{declarations}
+use Rattle.fx_c_types.specs.Programs.{gives_status}
+use Rattle.fx_c_types.specs.ProgramView.{declarations}
 
 -- structs, parameters and locals have sizes, and a call of each function takes at most 65,536 bytes of stack
 abbrev pub CheckedProgramsHaveFrames : Type 0

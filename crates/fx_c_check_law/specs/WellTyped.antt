@@ -2,10 +2,10 @@
 use Rattle.std.specs.Prelude.{◌≡◌, ◌⊎◌, ℕ, List, Ok, Err}
 use Rattle.fx_c_ast.specs.declared.checked.TProgram.{TProgram}
 use Rattle.fx_c_typing.specs.declared.fault.TypeKind.{TypeKind}
-use Rattle.fx_c_check.specs.declared.fault.TypeError.TheVariants.{Rule}
-use Rattle.fx_c_check.specs.declared.program.SourceFile.{SourceFile}
-use Rattle.fx_c_check.specs.Programs.{ProgramTree, well_typed}
-use Rattle.fx_c_check.specs.ProgramView.{declarations, program_tree}
+use Rattle.fx_c_types.specs.declared.fault.TypeError.TheVariants.{Rule}
+use Rattle.fx_c_types.specs.declared.program.SourceFile.{SourceFile}
+use Rattle.fx_c_types.specs.Programs.{ProgramTree, well_typed}
+use Rattle.fx_c_types.specs.ProgramView.{declarations, program_tree}
 
 -- the files keep all rules, and mean the program
 abbrev pub Means : List SourceFile → ProgramTree → Type 0

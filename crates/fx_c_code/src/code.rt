@@ -2,12 +2,12 @@
 
 ghost use Rattle.std.specs.Prelude.{◌≡◌, MatchOption, slice_index, if◌then◌else◌};
 ghost use Rattle.fx_c_ast.specs.CheckedTrees.{struct_types};
-ghost use Rattle.fx_c_mean.specs.Programs.{program_of, function_of, function_at, no_function};
-ghost use Rattle.fx_c_mean.specs.Rights.{home, may, is_member, is_shared, stack_of, stack_size};
+ghost use Rattle.fx_c_mean_model.specs.Programs.{program_of, function_of, function_at, no_function};
+ghost use Rattle.fx_c_mean_model.specs.Rights.{home, may, is_member, is_shared, stack_of, stack_size};
 
 use fx_c_ast::checked::{TFunction, TProgram};
 use fx_c_blocks::block::Place;
-use fx_c_mean::rights::Rights;
+use fx_c_mean_model::rights::Rights;
 
 /// The function of a number, if there is one.
 pub fn function(program: &TProgram, f: u32) -> Option<&TFunction>

@@ -3,8 +3,8 @@ use Rattle.std.proofs.Common.{◌≡◌, ℕ, Bool, List, [], ◌∷◌, ◌++�
 use Rattle.std.specs.Prelude.{slice_get}
 use Rattle.fx_c_ast.specs.CheckedTrees.{TyTree, TExprTrees, NoTExprs, MoreTExprs, ECall, EGate}
 use Rattle.fx_c_blocks.specs.declared.value.Value.{Value}
-use Rattle.fx_c_mean.specs.States as states
-use Rattle.fx_c_mean.specs.States.{Does, reach, follow, give}
+use Rattle.fx_c_mean_model.specs.States as states
+use Rattle.fx_c_mean_model.specs.States.{Does, reach, follow, give}
 use Rattle.fx_c_control.specs.declared.frames.Call.{Call}
 use Rattle.fx_c_control.specs.declared.frames.Frame.{Frame}
 use Rattle.fx_c_control.specs.declared.frames.Frame.TheVariants as frame

@@ -3,7 +3,7 @@ use Rattle.std.proofs.Common.{◌≡◌, refl}
 use Rattle.fx_c_ast.specs.declared.checked.TExpr.{TExpr}
 use Rattle.fx_c_ast.specs.declared.checked.TKind.{TKind, Number, Literal, Global, Local, Un', Bin', Cast', Convert', Size, Index', Member', Arrow', Call', Gate', Getc, Putc', DevLoad, DevStore', Spawn', Switch', Me}
 use Rattle.fx_c_ast.specs.CheckedTrees.{TyTree, kind_tree}
-use Rattle.fx_c_mean.specs.States.{type_of}
+use Rattle.fx_c_mean_model.specs.States.{type_of}
 
 pub type_is : (ty : TyTree) (k : TKind) → type_of (kind_tree ty k) ≡ ty
 type_is ty (Number value) = refl

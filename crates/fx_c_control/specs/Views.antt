@@ -4,8 +4,8 @@ use Rattle.std.specs.Global.{Global}
 use Rattle.fx_c_ast.specs.declared.checked.TStmt.{TStmt}
 use Rattle.fx_c_ast.specs.CheckedTrees.{TExprTrees, NoTExprs, MoreTExprs, TStmtTree, SEmpty, SIf, SWhile, SFor, MaybeTStmt, NoTStmt, OneTStmt, ty_tree, texpr_tree, texpr_trees, tstmt_tree, tstmt_trees}
 use Rattle.fx_c_blocks.specs.declared.value.Value.{Value}
-use Rattle.fx_c_mean.specs.States as states
-use Rattle.fx_c_mean.specs.States.{Spot, Does, start, reach, give, begin, begin_all, follow, begin_loop, begin_body, loop_body, after_body}
+use Rattle.fx_c_mean_model.specs.States as states
+use Rattle.fx_c_mean_model.specs.States.{Spot, Does, start, reach, give, begin, begin_all, follow, begin_loop, begin_body, loop_body, after_body}
 use Rattle.fx_c_control.specs.declared.frames.Way.{Way}
 use Rattle.fx_c_control.specs.declared.frames.Way.TheVariants as way
 use Rattle.fx_c_control.specs.declared.frames.Call.{Call}

@@ -2,7 +2,7 @@
 
 ghost use Rattle.std.specs.Prelude.{◌≡◌, ◌≢◌, ◌∷◌, ◌++◌, ◌&&◌, [], List, drop, MatchResult, IfSome};
 ghost use Rattle.fx_c_ast.specs.CheckedTrees.{ty_tree, texpr_tree, texpr_trees, tstmt_tree, tstmt_trees};
-ghost use Rattle.fx_c_mean.specs.States.{is_lvalue, is_scalar as scalar, same_integer, same_type, pointed, start as starts, converting as converts, type_of as typed, reach, begin as begins, begin_all as begins_all, begin_loop as begins_loop, begin_body as begins_body, loop_body, after_body, follow, give as gives, assign as assigned, Frame as MeantFrame};
+ghost use Rattle.fx_c_mean_model.specs.States.{is_lvalue, is_scalar as scalar, same_integer, same_type, pointed, start as starts, converting as converts, type_of as typed, reach, begin as begins, begin_all as begins_all, begin_loop as begins_loop, begin_body as begins_body, loop_body, after_body, follow, give as gives, assign as assigned, Frame as MeantFrame};
 ghost use Rattle.fx_c_control.specs.Views.{frame_of, frames_of, loop_at, spot_of, values_of, way_of, called_with, argued, IsLast};
 
 use crate::frames::{ARGUMENTS, Act, Frame, Now, Values, Way};

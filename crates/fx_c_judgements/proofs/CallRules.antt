@@ -10,7 +10,7 @@ use Rattle.fx_c_typing.specs.Values.{type_of, is_scalar, agrees}
 use Rattle.fx_c_typing.specs.Locals.{LocalTree}
 use Rattle.fx_c_typing.specs.Calls.{are_scalars, are_passed, passed, arguments}
 use Rattle.fx_c_heads.specs.Heads.{HeadsTree, FunctionHead}
-use Rattle.fx_c_types.specs.Bodies.{BodyTree, or_found, in_blocks, local_named, unless_hidden, CalleeTree, numbered, head_numbered, callee, call, gate, is_long, are_one_long, first_value, spawn}
+use Rattle.fx_c_bodies.specs.Bodies.{BodyTree, or_found, in_blocks, local_named, unless_hidden, CalleeTree, numbered, head_numbered, callee, call, gate, is_long, are_one_long, first_value, spawn}
 use Rattle.fx_c_judgements.specs.Types.{IsScalar}
 use Rattle.fx_c_judgements.specs.Values.{Converts, IsAssignable}
 use Rattle.fx_c_judgements.specs.Calls as judged

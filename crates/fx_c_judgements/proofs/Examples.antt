@@ -6,7 +6,7 @@ use Rattle.fx_c_ast.specs.declared.operator.Binop.TheVariants.{Add, Shl}
 use Rattle.fx_c_ast.specs.ParsedTrees.{NumberTree, TextTree, UnTree, BinTree, IndexTree, BreakTree}
 use Rattle.fx_c_ast.specs.CheckedTrees.{IntTy, PtrTy, ArrayTy, ENumber, ELiteral, EUn, EBin, EConvert, EIndex, TStmtTree}
 use Rattle.fx_c_typing.specs.Structs.{place_32}
-use Rattle.fx_c_types.specs.Bodies.{ScopeTree, BodyTree}
+use Rattle.fx_c_bodies.specs.Bodies.{ScopeTree, BodyTree}
 use Rattle.fx_c_judgements.specs.Types.{integer_itself, integer_complete}
 use Rattle.fx_c_judgements.specs.Values.{array_value, own_value, unconverted, converted_to}
 use Rattle.fx_c_judgements.specs.Operators as operator

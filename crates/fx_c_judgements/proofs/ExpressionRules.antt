@@ -14,7 +14,7 @@ use Rattle.fx_c_typing.specs.Calls.{joined}
 use Rattle.fx_c_typing.specs.Operators.{binary_values, binary, cast, element}
 use Rattle.fx_c_typing.specs.Structs.{arrow}
 use Rattle.fx_c_heads.specs.Heads.{HeadsTree, FunctionHead}
-use Rattle.fx_c_types.specs.Bodies.{ScopeTree, BodyTree, then_in, variable_node, variable, global_node, cast_type, cast_node, size_of_type, callee, CalleeTree, call, gate, spawn, typed, typed_all}
+use Rattle.fx_c_bodies.specs.Bodies.{ScopeTree, BodyTree, then_in, variable_node, variable, global_node, cast_type, cast_node, size_of_type, callee, CalleeTree, call, gate, spawn, typed, typed_all}
 use Rattle.fx_c_judgements.specs.Types.{Means}
 use Rattle.fx_c_judgements.specs.Values.{HasValue, Converts}
 use Rattle.fx_c_judgements.specs.Operators.{BinaryGives, IndexGives, CastGives, integer_cast, pointer_cast}

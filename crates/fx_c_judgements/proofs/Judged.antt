@@ -1,7 +1,7 @@
 -- Both directions at once, and that what is judged is determined.
 use Rattle.std.proofs.Common.{◌≡◌, false, Result, Ok, ap}
 use Rattle.fx_c_ast.specs.CheckedTrees.{NoTStmts}
-use Rattle.fx_c_types.specs.Bodies.{typed, checked, checked_all}
+use Rattle.fx_c_bodies.specs.Bodies.{typed, checked, checked_all}
 use Rattle.fx_c_judgements.specs.Laws.{ExpressionsAreJudged, StatementsAreJudged, BodiesAreJudged, ExpressionsAreDetermined, StatementsAreDetermined}
 use Rattle.fx_c_judgements.proofs.Ends.{ok_is, of_answer}
 use Rattle.fx_c_judgements.proofs.ExpressionRules.{typed_is, typed_holds}

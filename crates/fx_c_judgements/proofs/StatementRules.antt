@@ -9,7 +9,7 @@ use Rattle.fx_c_typing.specs.Types.{is_void}
 use Rattle.fx_c_typing.specs.Values.{type_of, value_of, condition, assigned}
 use Rattle.fx_c_typing.specs.Structs.{place_32}
 use Rattle.fx_c_heads.specs.Written.{ty_of}
-use Rattle.fx_c_types.specs.Bodies.{ScopeTree, BodyTree, place_16, innermost, entered, left, with_local, with_name, started, assigned_start, declared_local, local, returned, maybe_typed, maybe_condition, return_node, followed, checked, checked_maybe, checked_all}
+use Rattle.fx_c_bodies.specs.Bodies.{ScopeTree, BodyTree, place_16, innermost, entered, left, with_local, with_name, started, assigned_start, declared_local, local, returned, maybe_typed, maybe_condition, return_node, followed, checked, checked_maybe, checked_all}
 use Rattle.fx_c_judgements.specs.Types.{IsScalar, IsObjectType}
 use Rattle.fx_c_judgements.specs.Values.{HasValue, Converts, IsTested, IsAssignable, IsAssigned}
 use Rattle.fx_c_judgements.specs.Expressions.{HasType}

@@ -13,7 +13,7 @@ use Rattle.fx_c_names.specs.Names.{found}
 use Rattle.fx_c_typing.specs.Values.{type_of}
 use Rattle.fx_c_typing.specs.Structs.{place_32}
 use Rattle.fx_c_heads.specs.Heads.{FunctionHead}
-use Rattle.fx_c_types.specs.Bodies.{ScopeTree, BodyTree, place_16, type_or_void, global_or_void}
+use Rattle.fx_c_bodies.specs.Bodies.{ScopeTree, BodyTree, place_16, type_or_void, global_or_void}
 use Rattle.fx_c_judgements.specs.Types.{Means, IsObjectType}
 use Rattle.fx_c_judgements.specs.Values.{HasValue, Converts}
 use Rattle.fx_c_judgements.specs.Operators.{UnaryGives, BinaryGives, CastGives, IndexGives, MemberGives, ArrowGives}

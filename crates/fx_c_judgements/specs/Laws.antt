@@ -2,7 +2,7 @@
 use Rattle.std.specs.Prelude.{◌≡◌, ◌↔◌, Bool, false, Ok}
 use Rattle.fx_c_ast.specs.ParsedTrees.{ExprTree, StmtTree, StmtTrees}
 use Rattle.fx_c_ast.specs.CheckedTrees.{TExprTree, TStmtTree, TStmtTrees, NoTStmts}
-use Rattle.fx_c_types.specs.Bodies.{ScopeTree, BodyTree, typed, checked, checked_all}
+use Rattle.fx_c_bodies.specs.Bodies.{ScopeTree, BodyTree, typed, checked, checked_all}
 use Rattle.fx_c_judgements.specs.Expressions.{HasType}
 use Rattle.fx_c_judgements.specs.Statements.{MeansStatement, MeanStatements}
 

@@ -8,7 +8,7 @@ use Rattle.fx_c_ast.specs.CheckedTrees.{TyTree, VoidTy, TExprTree, ELocal, TStmt
 use Rattle.fx_c_names.specs.Names.{found}
 use Rattle.fx_c_typing.specs.Values.{type_of}
 use Rattle.fx_c_typing.specs.Structs.{place_32}
-use Rattle.fx_c_types.specs.Bodies.{ScopeTree, BodyTree, place_16, innermost, entered, left, with_local, with_name}
+use Rattle.fx_c_bodies.specs.Bodies.{ScopeTree, BodyTree, place_16, innermost, entered, left, with_local, with_name}
 use Rattle.fx_c_judgements.specs.Types.{IsScalar, IsObjectType}
 use Rattle.fx_c_judgements.specs.Values.{HasValue, Converts, IsAssignable, IsAssigned, IsTested}
 use Rattle.fx_c_judgements.specs.Expressions.{HasType}

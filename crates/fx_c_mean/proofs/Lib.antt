@@ -1,8 +1,4 @@
-mod Texts
-mod Rows
-mod Undefined
-mod Costs
-pub mod Growing
-pub mod Every
-pub mod Denials
-pub mod Writing
+pub mod Starts
+pub mod Waiting
+pub mod Inputs
+pub mod Known

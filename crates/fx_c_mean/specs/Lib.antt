@@ -1,6 +1,1 @@
-pub mod Programs
-pub mod Rights
-pub mod States
-pub mod Steps
-pub mod Expected
-pub mod Laws
+pub mod Walks

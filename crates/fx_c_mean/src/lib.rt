@@ -1,9 +1,10 @@
-//! The meaning of checked programs of the C profile, independent of any machine: a state, one step
-//! with its cost, and the operations and the end of a run within a cost.
+//! A run of a checked program by the meaning of the source, one step at a time.
 //!
-//! The definitions stand in `specs/`.
+//! A step is that of `fx_c_mean_model`, made on a state that is changed in place; operations on devices go over
+//! the bus, and those of the console's register 0 to the caller.
 #![tactic(auto)]
 
-pub mod end;
-pub mod laws;
-pub mod rights;
+pub mod runner;
+mod start;
+
+pub use runner::{Runner, Walk};

@@ -1,6 +1,6 @@
 -- Both directions at once, and that programs are determined.
-use Rattle.fx_c_check.specs.Programs.{well_typed}
-use Rattle.fx_c_check.specs.ProgramView.{declarations, program_tree}
+use Rattle.fx_c_types.specs.Programs.{well_typed}
+use Rattle.fx_c_types.specs.ProgramView.{declarations, program_tree}
 use Rattle.fx_c_judgements.proofs.Ends.{ok_is, of_answer}
 use Rattle.fx_c_program_judgements.specs.Laws.{ProgramsAreJudged, ProgramsAreDetermined}
 use Rattle.fx_c_program_judgements.proofs.ProgramRules.{program_is, program_holds}

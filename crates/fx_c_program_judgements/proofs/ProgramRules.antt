@@ -11,7 +11,7 @@ use Rattle.fx_c_typing.specs.Types.{category}
 use Rattle.fx_c_typing.specs.Locals.{LocalTree}
 use Rattle.fx_c_heads.specs.Heads.{HeadsTree, FunctionHead, no_heads}
 use Rattle.fx_c_frames.specs.Frames.{frame_size}
-use Rattle.fx_c_check.specs.Programs.{PlacedDecl, ProgramTree, BodiesTree, tags_of, heads_of, body_from, no_bodies, function_of, scope_of, function_body, body_of, bodies_of, gives_status, has_none, main_at, main_of, main_number, well_typed}
+use Rattle.fx_c_types.specs.Programs.{PlacedDecl, ProgramTree, BodiesTree, tags_of, heads_of, body_from, no_bodies, function_of, scope_of, function_body, body_of, bodies_of, gives_status, has_none, main_at, main_of, main_number, well_typed}
 use Rattle.fx_c_judgements.proofs.Ends.{Ends, answered, refused, bind_ends, demand_ends, map_ends, bind_ok, demand_ok}
 use Rattle.fx_c_judgements.proofs.StatementRules.{body_is, body_holds}
 use Rattle.fx_c_program_judgements.specs.Declarations.{DeclaresHead, struct_head, global_head, function_head}

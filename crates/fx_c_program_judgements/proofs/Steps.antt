@@ -2,8 +2,8 @@
 use Rattle.std.proofs.Common.{◌≡◌, ℕ, Result, Ok, Err, ap, ◌∙◌}
 use Rattle.fx_c_typing.specs.declared.fault.Fault.TheVariants as fault
 use Rattle.fx_c_typing.specs.Checks.{Checked}
-use Rattle.fx_c_check.specs.declared.fault.TypeError.{TypeError}
-use Rattle.fx_c_check.specs.Programs.{at_declaration, ◌>>>◌}
+use Rattle.fx_c_types.specs.declared.fault.TypeError.{TypeError}
+use Rattle.fx_c_types.specs.Programs.{at_declaration, ◌>>>◌}
 use Rattle.fx_c_judgements.proofs.Ends.{Ends, answered, refused}
 
 pub then_ends : {A B : Type 0} {P : A → Type 0} {Q : B → Type 0} (r : Result A TypeError) (f : A → Result B TypeError) → Ends P r → ((x : A) → P x → Ends Q (f x)) → Ends Q (r >>> f)

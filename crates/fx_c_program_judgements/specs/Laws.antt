@@ -1,9 +1,9 @@
 -- What the judgements derive of a program is what the check gives.
 use Rattle.std.specs.Prelude.{◌≡◌, ◌↔◌, List, Ok}
 use Rattle.fx_c_ast.specs.declared.checked.TProgram.{TProgram}
-use Rattle.fx_c_check.specs.declared.program.SourceFile.{SourceFile}
-use Rattle.fx_c_check.specs.Programs.{ProgramTree, well_typed}
-use Rattle.fx_c_check.specs.ProgramView.{declarations, program_tree}
+use Rattle.fx_c_types.specs.declared.program.SourceFile.{SourceFile}
+use Rattle.fx_c_types.specs.Programs.{ProgramTree, well_typed}
+use Rattle.fx_c_types.specs.ProgramView.{declarations, program_tree}
 use Rattle.fx_c_program_judgements.specs.WholePrograms.{MeansProgram}
 
 -- files mean a program by the judgements exactly where the check gives that program

@@ -10,8 +10,8 @@ use Rattle.fx_c_names.specs.Names.{found}
 use Rattle.fx_c_typing.specs.Structs.{place_32}
 use Rattle.fx_c_heads.specs.Heads.{HeadsTree, FunctionHead, no_heads}
 use Rattle.fx_c_frames.specs.Frames.{frame_size}
-use Rattle.fx_c_types.specs.Bodies.{BodyTree}
-use Rattle.fx_c_check.specs.Programs.{PlacedDecl, ProgramTree, BodiesTree, tags_of, body_from, no_bodies, function_of, with_function, scope_of, program_of}
+use Rattle.fx_c_bodies.specs.Bodies.{BodyTree}
+use Rattle.fx_c_types.specs.Programs.{PlacedDecl, ProgramTree, BodiesTree, tags_of, body_from, no_bodies, function_of, with_function, scope_of, program_of}
 use Rattle.fx_c_judgements.specs.Statements.{MeanStatements}
 use Rattle.fx_c_program_judgements.specs.Declarations.{DeclaresHead}
 

@@ -8,8 +8,8 @@ use Rattle.fx_grants.specs.declared.grants.Place.TheVariants as places
 use Rattle.fx_grants.specs.GrantSets.{merged_of, may_of}
 use Rattle.fx_c_blocks.specs.declared.block.Place.{Place}
 use Rattle.fx_c_blocks.specs.declared.block.Place.TheVariants.{Global, Literal, Local}
-use Rattle.fx_c_mean.specs.Programs.{Program, program_of}
-use Rattle.fx_c_mean.specs.Rights.{may}
+use Rattle.fx_c_mean_model.specs.Programs.{Program, program_of}
+use Rattle.fx_c_mean_model.specs.Rights.{may}
 use Rattle.fx_c_rights.specs.Rights.{rights_of}
 
 -- an object of a program, as grants name it

@@ -3,7 +3,7 @@ use Rattle.std.specs.Prelude.{map, not}
 use Rattle.fx_grants.specs.declared.grants.Pair.{Pair}
 use Rattle.fx_grants.specs.declared.grants.Grants.{Grants}
 use Rattle.fx_grants.specs.GrantSets.{denies_nothing, has_common_stacks}
-use Rattle.fx_c_mean.specs.declared.rights.Rights.{Rights}
+use Rattle.fx_c_mean_model.specs.declared.rights.Rights.{Rights}
 
 -- Each compartment has its libraries; accesses are checked under every mechanism but plain calls; and
 -- compartments have stacks of their own where they have memory of their own.

@@ -6,7 +6,7 @@ ghost use Rattle.fx_grants.specs.GrantSets.{denies_nothing, has_common_stacks};
 ghost use Rattle.fx_c_rights.specs.Rights.{rights_of as rights_from};
 
 use fx_c_ast::sequence::Sequence;
-use fx_c_mean::rights::Rights;
+use fx_c_mean_model::rights::Rights;
 use fx_config::Mechanism;
 use fx_grants::{Grants, Pair};
 use std::alloc::{AllocError, Global};

@@ -8,12 +8,12 @@ use Rattle.fx_c_blocks.specs.declared.value.Value.TheVariants.{Number}
 use Rattle.fx_c_blocks.specs.declared.value.Cell.{Cell}
 use Rattle.fx_c_blocks.specs.declared.fault.Fault.{Fault}
 use Rattle.fx_c_blocks.specs.Blocks.{width, byte_read, loaded, writable}
-use Rattle.fx_c_mean.specs.declared.end.End.{End}
-use Rattle.fx_c_mean.specs.declared.rights.Rights.{Rights}
-use Rattle.fx_c_mean.specs.Programs.{Program, function_at}
-use Rattle.fx_c_mean.specs.States.{Frame, Caller, Spot, Does, Push, SizeOf, GlobalAddress, LiteralAddress, LocalAddress, Load, Apply, Convert, Step, Combine, Decide, Judge, Enter, Ask, Tell, Spawn, Switch, Self, Store, ReadByte, WriteByte, Branch, Test, JumpBack, Break, Continue, Leave, FallOff, Stuck, unwind}
-use Rattle.fx_c_mean.specs.Steps.{Thread, Running, Waiting, Ended, State, Outcome, if_value, perform, step, told, asked, operation, switch, resume, ended, returned, stores, further, left, value_at_end}
-use Rattle.fx_c_mean.specs.Expected.{Run as SourceRun, is_ask, asks, advance, with_answers, run_step}
+use Rattle.fx_c_mean_model.specs.declared.end.End.{End}
+use Rattle.fx_c_mean_model.specs.declared.rights.Rights.{Rights}
+use Rattle.fx_c_mean_model.specs.Programs.{Program, function_at}
+use Rattle.fx_c_mean_model.specs.States.{Frame, Caller, Spot, Does, Push, SizeOf, GlobalAddress, LiteralAddress, LocalAddress, Load, Apply, Convert, Step, Combine, Decide, Judge, Enter, Ask, Tell, Spawn, Switch, Self, Store, ReadByte, WriteByte, Branch, Test, JumpBack, Break, Continue, Leave, FallOff, Stuck, unwind}
+use Rattle.fx_c_mean_model.specs.Steps.{Thread, Running, Waiting, Ended, State, Outcome, if_value, perform, step, told, asked, operation, switch, resume, ended, returned, stores, further, left, value_at_end}
+use Rattle.fx_c_mean_model.specs.Expected.{Run as SourceRun, is_ask, asks, advance, with_answers, run_step}
 use Rattle.fx_c_runs.specs.Counting.{answers_of, is_starved, lacks}
 
 -- ---- what makes no load

@@ -6,16 +6,16 @@ use Rattle.fx_outcomes.specs.Runs as runs
 use Rattle.fx_outcomes.proofs.Follows.{nat_split}
 use Rattle.fx_base.specs.declared.device_op.DeviceOp.{DeviceOp}
 use Rattle.fx_device.specs.Bus.{BusState}
-use Rattle.fx_c_mean.specs.declared.end.End.{End}
-use Rattle.fx_c_mean.specs.declared.rights.Rights.{Rights}
-use Rattle.fx_c_mean.specs.Laws.{IsNoDenial, IsNotDenied}
-use Rattle.fx_c_mean.specs.Programs.{Program}
-use Rattle.fx_c_mean.specs.Steps.{State, Outcome, extra, step}
-use Rattle.fx_c_mean.specs.Expected.{Run as SourceRun, advance, with_answers, asks, run_step}
-use Rattle.fx_c_mean.proofs.Every.{every_step}
-use Rattle.fx_c_mean.proofs.Denials.{none_denied, plain}
-use Rattle.fx_c_runner.specs.declared.runner.Walk.{Walk}
-use Rattle.fx_c_runner.specs.Walks.{Run, GoesOn, Finishes, first_run, more_cost}
+use Rattle.fx_c_mean_model.specs.declared.end.End.{End}
+use Rattle.fx_c_mean_model.specs.declared.rights.Rights.{Rights}
+use Rattle.fx_c_mean_model.specs.Laws.{IsNoDenial, IsNotDenied}
+use Rattle.fx_c_mean_model.specs.Programs.{Program}
+use Rattle.fx_c_mean_model.specs.Steps.{State, Outcome, extra, step}
+use Rattle.fx_c_mean_model.specs.Expected.{Run as SourceRun, advance, with_answers, asks, run_step}
+use Rattle.fx_c_mean_model.proofs.Every.{every_step}
+use Rattle.fx_c_mean_model.proofs.Denials.{none_denied, plain}
+use Rattle.fx_c_mean.specs.declared.runner.Walk.{Walk}
+use Rattle.fx_c_mean.specs.Walks.{Run, GoesOn, Finishes, first_run, more_cost}
 use Rattle.fx_c_runs.specs.Counting.{answers_of, started, cost_of, is_fed, run_after}
 use Rattle.fx_c_runs.specs.Reached.{here, onward, Reached, BegunBelow, Came}
 use Rattle.fx_c_runs.specs.Laws.{Advances}

@@ -3,13 +3,13 @@ use Rattle.std.proofs.Common.{◌≡◌, ℕ, zero, suc, ◌+◌, ◌≤◌, Lis
 use Rattle.fx_outcomes.specs.Runs.{Next, Goes, Outcome, before, act, within, expected}
 use Rattle.fx_base.specs.declared.device_op.DeviceOp.{DeviceOp}
 use Rattle.fx_device.specs.Bus.{BusState, operation}
-use Rattle.fx_c_mean.specs.Laws.{IsOneOperation}
-use Rattle.fx_c_mean.specs.declared.rights.Rights.{Rights}
-use Rattle.fx_c_mean.specs.Programs.{Program}
-use Rattle.fx_c_mean.specs.Steps.{State, step}
-use Rattle.fx_c_mean.proofs.Every.{every_step}
-use Rattle.fx_c_mean.proofs.Denials.{one_made}
-use Rattle.fx_c_runner.specs.Walks.{is_console, request_of, Notes, Makes}
+use Rattle.fx_c_mean_model.specs.Laws.{IsOneOperation}
+use Rattle.fx_c_mean_model.specs.declared.rights.Rights.{Rights}
+use Rattle.fx_c_mean_model.specs.Programs.{Program}
+use Rattle.fx_c_mean_model.specs.Steps.{State, step}
+use Rattle.fx_c_mean_model.proofs.Every.{every_step}
+use Rattle.fx_c_mean_model.proofs.Denials.{one_made}
+use Rattle.fx_c_mean.specs.Walks.{is_console, request_of, Notes, Makes}
 use Rattle.fx_c_runs.specs.Counting.{answers_of}
 
 -- ---- the budget

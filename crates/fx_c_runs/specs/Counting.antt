@@ -3,10 +3,10 @@
 use Rattle.std.specs.Prelude.{ℕ, zero, suc, ◌+◌, Bool, true, false, not, ◌&&◌, if◌then◌else◌, List, [], ◌∷◌, ◌++◌}
 use Rattle.fx_base.specs.declared.device_op.DeviceOp.{DeviceOp}
 use Rattle.fx_outcomes.specs.Runs.{later}
-use Rattle.fx_c_mean.specs.declared.rights.Rights.{Rights}
-use Rattle.fx_c_mean.specs.Programs.{Program}
-use Rattle.fx_c_mean.specs.Steps.{extra, first_state}
-use Rattle.fx_c_mean.specs.Expected.{Run as SourceRun, asks, run_step}
+use Rattle.fx_c_mean_model.specs.declared.rights.Rights.{Rights}
+use Rattle.fx_c_mean_model.specs.Programs.{Program}
+use Rattle.fx_c_mean_model.specs.Steps.{extra, first_state}
+use Rattle.fx_c_mean_model.specs.Expected.{Run as SourceRun, asks, run_step}
 
 -- the answers that the loads of these operations got, in order
 abbrev pub answers_of : List DeviceOp → List ℕ

@@ -1,13 +1,13 @@
 -- What the laws of runs say.
 use Rattle.std.specs.Prelude.{◌≡◌, ℕ, ◌+◌, ◌^◌, ◌<◌, false, List, [], ◌++◌, Some, None, IfSome}
 use Rattle.fx_device.specs.Bus.{BusState}
-use Rattle.fx_c_mean.specs.declared.rights.Rights.{Rights}
-use Rattle.fx_c_mean.specs.Laws.{IsNoDenial}
-use Rattle.fx_c_mean.specs.Programs.{Program}
-use Rattle.fx_c_mean.specs.Steps.{extra}
-use Rattle.fx_c_mean.specs.Expected.{expected}
-use Rattle.fx_c_runner.specs.declared.runner.Walk.{Walk}
-use Rattle.fx_c_runner.specs.Walks.{Run, GoesOn, Finishes, first_run}
+use Rattle.fx_c_mean_model.specs.declared.rights.Rights.{Rights}
+use Rattle.fx_c_mean_model.specs.Laws.{IsNoDenial}
+use Rattle.fx_c_mean_model.specs.Programs.{Program}
+use Rattle.fx_c_mean_model.specs.Steps.{extra}
+use Rattle.fx_c_mean_model.specs.Expected.{expected}
+use Rattle.fx_c_mean.specs.declared.runner.Walk.{Walk}
+use Rattle.fx_c_mean.specs.Walks.{Run, GoesOn, Finishes, first_run}
 use Rattle.fx_c_runs.specs.Reached.{Reached, BegunBelow, Came}
 
 -- a runner that was made has reached its program's start

@@ -3,12 +3,12 @@ use Rattle.std.specs.Prelude.{◌≡◌, ℕ, ◌+◌, ◌-◌, ◌^◌, ◌<◌
 use Rattle.fx_base.specs.declared.device_op.DeviceOp.{DeviceOp}
 use Rattle.fx_outcomes.specs.Runs.{before}
 use Rattle.fx_outcomes.specs.Runs as runs
-use Rattle.fx_c_mean.specs.declared.end.End.{End}
-use Rattle.fx_c_mean.specs.declared.rights.Rights.{Rights}
-use Rattle.fx_c_mean.specs.Programs.{Program}
-use Rattle.fx_c_mean.specs.Steps.{extra}
-use Rattle.fx_c_mean.specs.Expected.{Run as SourceRun, run_step, expected}
-use Rattle.fx_c_runner.specs.Walks.{Run}
+use Rattle.fx_c_mean_model.specs.declared.end.End.{End}
+use Rattle.fx_c_mean_model.specs.declared.rights.Rights.{Rights}
+use Rattle.fx_c_mean_model.specs.Programs.{Program}
+use Rattle.fx_c_mean_model.specs.Steps.{extra}
+use Rattle.fx_c_mean_model.specs.Expected.{Run as SourceRun, run_step, expected}
+use Rattle.fx_c_mean.specs.Walks.{Run}
 use Rattle.fx_c_runs.specs.Counting.{answers_of, started, cost_of, is_fed, run_after}
 
 -- a runner's state with answers for the loads that come

@@ -25,11 +25,11 @@ use Rattle.fx_c_heads.specs.Written.{ty_of}
 use Rattle.fx_c_heads.specs.Heads.{HeadsTree, FunctionHead, object_type, no_heads, is_next, repeats, names_of, members_behind, struct_layout, with_struct, struct_head, is_declared, is_initial, with_global, global_head, is_answer, are_params, param_names, params_of, function_head, head}
 use Rattle.fx_c_heads.specs.Heads as heads
 use Rattle.fx_c_frames.specs.Frames.{frame_size}
-use Rattle.fx_c_types.specs.Bodies.{ScopeTree, BodyTree, then_in, variable, text_node, cast_node, size_of_type, callee, call, gate, spawn, typed, typed_all, innermost, entered, left, with_local, with_name, started, assigned_start, declared_local, local, place_16, returned, maybe_typed, maybe_condition, return_node, followed, checked, checked_maybe, checked_all}
-use Rattle.fx_c_check.specs.declared.fault.TypeError.{TypeError}
-use Rattle.fx_c_check.specs.declared.program.SourceFile.{SourceFile}
-use Rattle.fx_c_check.specs.Programs.{PlacedDecl, ProgramTree, FunctionTree, BodiesTree, at_declaration, ◌>>>◌, tags_of, heads_of, body_from, no_bodies, function_of, with_function, finished, scope_of, function_body, body_of, bodies_of, main_number, program_of, well_typed}
-use Rattle.fx_c_check.specs.ProgramView.{declarations, program_tree}
+use Rattle.fx_c_bodies.specs.Bodies.{ScopeTree, BodyTree, then_in, variable, text_node, cast_node, size_of_type, callee, call, gate, spawn, typed, typed_all, innermost, entered, left, with_local, with_name, started, assigned_start, declared_local, local, place_16, returned, maybe_typed, maybe_condition, return_node, followed, checked, checked_maybe, checked_all}
+use Rattle.fx_c_types.specs.declared.fault.TypeError.{TypeError}
+use Rattle.fx_c_types.specs.declared.program.SourceFile.{SourceFile}
+use Rattle.fx_c_types.specs.Programs.{PlacedDecl, ProgramTree, FunctionTree, BodiesTree, at_declaration, ◌>>>◌, tags_of, heads_of, body_from, no_bodies, function_of, with_function, finished, scope_of, function_body, body_of, bodies_of, main_number, program_of, well_typed}
+use Rattle.fx_c_types.specs.ProgramView.{declarations, program_tree}
 use Rattle.fx_c_strings.specs.Strings.{strings, strings_of_all, strings_of_value, strings_in, strings_in_maybe, strings_in_all, declared_strings, program_strings}
 
 -- what holds of a check's answer wherever it has one

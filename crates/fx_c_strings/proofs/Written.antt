@@ -12,8 +12,8 @@ use Rattle.fx_c_parse.specs.Units.{IsList, no_item, next_item, IsMember, struct_
 use Rattle.fx_c_parse.specs.Exact.{IsTextOf}
 use Rattle.fx_c_parse.proofs.Counts.{no_more_words}
 use Rattle.fx_c_parse.proofs.Growth.{dims_shorter, pointer_shorter}
-use Rattle.fx_c_check.specs.Programs.{PlacedDecl}
-use Rattle.fx_c_check.specs.ProgramView.{placed_in}
+use Rattle.fx_c_types.specs.Programs.{PlacedDecl}
+use Rattle.fx_c_types.specs.ProgramView.{placed_in}
 use Rattle.fx_c_strings.specs.Strings.{strings, strings_of_all, strings_of_value, strings_in, strings_in_maybe, strings_in_all, declared_strings, unit_strings, program_strings}
 
 -- ---- expressions

@@ -3,9 +3,9 @@ use Rattle.std.specs.Prelude.{◌≡◌, ℕ, ◌≤◌, List, length, Ok}
 use Rattle.fx_c_ast.specs.declared.checked.TProgram.{TProgram}
 use Rattle.fx_c_ast.specs.ParsedTrees.{DeclTree}
 use Rattle.fx_c_parse.specs.Exact.{IsTextOf}
-use Rattle.fx_c_check.specs.declared.program.SourceFile.{SourceFile}
-use Rattle.fx_c_check.specs.Programs.{well_typed}
-use Rattle.fx_c_check.specs.ProgramView.{declarations, program_tree}
+use Rattle.fx_c_types.specs.declared.program.SourceFile.{SourceFile}
+use Rattle.fx_c_types.specs.Programs.{well_typed}
+use Rattle.fx_c_types.specs.ProgramView.{declarations, program_tree}
 use Rattle.fx_c_strings.specs.Strings.{unit_strings, program_strings}
 
 -- each string of a file's tree takes a byte of its text

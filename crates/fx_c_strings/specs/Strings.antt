@@ -2,7 +2,7 @@
 -- global begins with is none.
 use Rattle.std.specs.Prelude.{ℕ, ◌+◌, List, [], ◌∷◌, Option, Some, None}
 use Rattle.fx_c_ast.specs.ParsedTrees.{ExprTree, NumberTree, TextTree, VarTree, UnTree, BinTree, CastTree, SizeTree, IndexTree, MemberTree, ArrowTree, CallTree, GateTree, GetcTree, PutcTree, DevLoadTree, DevStoreTree, SpawnTree, SwitchTree, MeTree, ExprTrees, NoExprs, MoreExprs, StmtTree, EmptyTree, BlockTree, LocalTree, EvalTree, AssignTree, IfTree, WhileTree, ForTree, BreakTree, ContinueTree, ReturnTree, StmtTrees, NoStmts, MoreStmts, MaybeStmt, Absent, Present, DeclTree, StructTree, GlobalTree, FunctionTree}
-use Rattle.fx_c_check.specs.Programs.{PlacedDecl}
+use Rattle.fx_c_types.specs.Programs.{PlacedDecl}
 
 abbrev mutual
   pub strings : ExprTree → ℕ

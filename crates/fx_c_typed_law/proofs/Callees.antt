@@ -10,7 +10,7 @@ use Rattle.fx_c_typing.specs.Values.{type_of, value_of, is_scalar, agrees, as_lo
 use Rattle.fx_c_typing.specs.Locals.{LocalTree}
 use Rattle.fx_c_typing.specs.Calls.{are_scalars, are_passed, passed, arguments, joined, putc, device_store, switch}
 use Rattle.fx_c_heads.specs.Heads.{HeadsTree, FunctionHead}
-use Rattle.fx_c_types.specs.Bodies.{BodyTree, function_named, CalleeTree, numbered, head_numbered, callee, call, gate, is_long, are_one_long, first_value, spawn}
+use Rattle.fx_c_bodies.specs.Bodies.{BodyTree, function_named, CalleeTree, numbered, head_numbered, callee, call, gate, is_long, are_one_long, first_value, spawn}
 use Rattle.fx_c_typed_law.specs.Tables.{Tables}
 use Rattle.fx_c_typed_law.specs.Nodes.{ArePassed, Calls, Enters, IsOneLong, Starts}
 use Rattle.fx_c_typed_law.specs.Trees.{IsTyped, AreTyped}

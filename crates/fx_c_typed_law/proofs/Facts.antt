@@ -14,9 +14,9 @@ use Rattle.fx_c_typing.specs.Locals.{local_trees}
 use Rattle.fx_c_heads.specs.Heads.{GlobalHead, FunctionHead}
 use Rattle.fx_c_heads.specs.HeadsView.{global_tree, global_heads}
 use Rattle.fx_c_heads.proofs.Fields.{types_are, length-struct_trees}
-use Rattle.fx_c_check.specs.declared.program.SourceFile.{SourceFile}
-use Rattle.fx_c_check.specs.Programs as program
-use Rattle.fx_c_check.specs.ProgramView.{declarations, function_tree, function_trees, program_tree}
+use Rattle.fx_c_types.specs.declared.program.SourceFile.{SourceFile}
+use Rattle.fx_c_types.specs.Programs as program
+use Rattle.fx_c_types.specs.ProgramView.{declarations, function_tree, function_trees, program_tree}
 use Rattle.fx_c_check_law.specs.WellTyped.{WellTyped}
 use Rattle.fx_c_check_law.proofs.Ends.{Ends}
 use Rattle.fx_c_check_law.proofs.Heads.{all_types, length-all_types}

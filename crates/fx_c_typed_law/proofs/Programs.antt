@@ -18,10 +18,10 @@ use Rattle.fx_c_heads.specs.Written.{ty_of}
 use Rattle.fx_c_heads.specs.Sizes.{known}
 use Rattle.fx_c_heads.specs.Heads.{HeadsTree, FunctionHead, no_heads, head, object_type}
 use Rattle.fx_c_frames.specs.Frames.{slots_size, frame_size}
-use Rattle.fx_c_types.specs.Bodies.{ScopeTree, BodyTree, checked_all, place_16}
-use Rattle.fx_c_check.specs.declared.fault.TypeError.{TypeError}
-use Rattle.fx_c_check.specs.Programs as program
-use Rattle.fx_c_check.specs.Programs.{PlacedDecl, ProgramTree, at_declaration, ◌>>>◌, with_name, name_unless, tags_of, heads_of, param_block, body_from, BodiesTree, no_bodies, function_of, with_function, finished, scope_of, function_body, next_body, body_of, bodies_of, main_number, program_of, well_typed}
+use Rattle.fx_c_bodies.specs.Bodies.{ScopeTree, BodyTree, checked_all, place_16}
+use Rattle.fx_c_types.specs.declared.fault.TypeError.{TypeError}
+use Rattle.fx_c_types.specs.Programs as program
+use Rattle.fx_c_types.specs.Programs.{PlacedDecl, ProgramTree, at_declaration, ◌>>>◌, with_name, name_unless, tags_of, heads_of, param_block, body_from, BodiesTree, no_bodies, function_of, with_function, finished, scope_of, function_body, next_body, body_of, bodies_of, main_number, program_of, well_typed}
 use Rattle.fx_c_check_law.proofs.Ends.{Ends, bind_ends, then_ends, demand_ends, at_ends, weaker, both_end}
 use Rattle.fx_c_check_law.proofs.Known.{sized_same, table_is}
 use Rattle.fx_c_check_law.proofs.Heads.{all_types, length-all_types, IsSound, none_sound, HasScalars, structs_in, functions_in, Follows, head_ends, object_ends}

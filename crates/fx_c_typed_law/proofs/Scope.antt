@@ -17,7 +17,7 @@ use Rattle.fx_c_typing.specs.Locals.{LocalTree}
 use Rattle.fx_c_heads.specs.Written.{number_or, ty_of, is_named, is_object as is_object_type}
 use Rattle.fx_c_heads.specs.Sizes.{known, is_small}
 use Rattle.fx_c_heads.specs.Heads.{HeadsTree, GlobalHead, FunctionHead, types_of, object_type}
-use Rattle.fx_c_types.specs.Bodies.{BodyTree, or_found, in_blocks, local_named, place_16, type_or_void, local_node, global_or_void, global_node, variable_node, variable}
+use Rattle.fx_c_bodies.specs.Bodies.{BodyTree, or_found, in_blocks, local_named, place_16, type_or_void, local_node, global_or_void, global_node, variable_node, variable}
 use Rattle.fx_c_typed_law.specs.Tables.{Tables, IsNamed, type_of_global, type_of_local, type_of_text, local_type, literal_type, member_type}
 use Rattle.fx_c_typed_law.specs.Nodes.{IsPointer, IsAnswer}
 use Rattle.fx_c_typed_law.specs.Trees.{IsTyped}

@@ -17,7 +17,7 @@ use Rattle.fx_c_typing.specs.Structs.{place_32}
 use Rattle.fx_c_typing.specs.Locals.{LocalTree}
 use Rattle.fx_c_heads.specs.Written.{ty_of, is_named, is_object, written_category}
 use Rattle.fx_c_heads.specs.Heads.{HeadsTree, GlobalHead, FunctionHead, repeats, is_declared, object_type, members_behind, types_of, names_of, is_next, struct_layout, with_struct, struct_head, is_initial, with_global, global_head, is_nothing, is_param, is_answer, are_params, param_names, params_of, with_function, function_head, head}
-use Rattle.fx_c_check.specs.Programs.{PlacedDecl, name_unless, with_tag, tags_of}
+use Rattle.fx_c_types.specs.Programs.{PlacedDecl, name_unless, with_tag, tags_of}
 use Rattle.fx_c_check_law.proofs.Heads.{all_types, structs_in}
 use Rattle.fx_c_check_law.proofs.Programs.{struct_count}
 use Rattle.fx_c_typed_law.specs.Tables.{IsNamed}

@@ -1,2 +1,3 @@
-pub mod Bodies
-pub mod Views
+pub mod Answers
+pub mod Programs
+pub mod ProgramView

@@ -1,7 +1,8 @@
-//! The type checker: names, expressions and statements of function bodies.
+//! The type checker: all rules over all files of a program.
 #![tactic(auto)]
 
-pub mod expressions;
-pub mod nodes;
-pub mod scope;
-pub mod statements;
+pub mod fault;
+pub mod program;
+
+pub use fault::TypeError;
+pub use program::{SourceFile, check};

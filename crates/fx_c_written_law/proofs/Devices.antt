@@ -12,10 +12,10 @@ use Rattle.fx_c_typing.specs.Locals.{LocalTree}
 use Rattle.fx_c_heads.specs.Written.{ty_of, is_object}
 use Rattle.fx_c_heads.specs.Sizes.{is_small}
 use Rattle.fx_c_heads.specs.Heads.{HeadsTree, GlobalHead, FunctionHead, no_heads, object_type}
-use Rattle.fx_c_check.specs.declared.fault.TypeError.{TypeError}
-use Rattle.fx_c_check.specs.declared.program.SourceFile.{SourceFile}
-use Rattle.fx_c_check.specs.Programs.{PlacedDecl, tags_of, heads_of}
-use Rattle.fx_c_check.specs.ProgramView.{declarations}
+use Rattle.fx_c_types.specs.declared.fault.TypeError.{TypeError}
+use Rattle.fx_c_types.specs.declared.program.SourceFile.{SourceFile}
+use Rattle.fx_c_types.specs.Programs.{PlacedDecl, tags_of, heads_of}
+use Rattle.fx_c_types.specs.ProgramView.{declarations}
 use Rattle.fx_c_check_law.specs.WellTyped.{WellTyped}
 use Rattle.fx_c_check_law.proofs.Ends.{Ends, demand_ends}
 use Rattle.fx_c_written_law.specs.Each.{EachInAll}

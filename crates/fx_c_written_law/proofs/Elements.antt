@@ -8,8 +8,8 @@ use Rattle.fx_c_ast.specs.CheckedTrees.{TyTree, tstmt_trees, member_types, struc
 use Rattle.fx_c_ast.specs.Layout.{known_layouts}
 use Rattle.fx_c_typing.specs.Structs as plain
 use Rattle.fx_c_heads.proofs.Fields.{types_are}
-use Rattle.fx_c_check.specs.declared.program.SourceFile.{SourceFile}
-use Rattle.fx_c_check.specs.ProgramView.{declarations}
+use Rattle.fx_c_types.specs.declared.program.SourceFile.{SourceFile}
+use Rattle.fx_c_types.specs.ProgramView.{declarations}
 use Rattle.fx_c_check_law.specs.WellTyped.{WellTyped}
 use Rattle.fx_c_check_law.proofs.Heads.{all_types}
 use Rattle.fx_c_written_law.specs.Each.{EachInAll}

@@ -20,7 +20,7 @@ use Rattle.fx_c_typing.specs.Locals.{LocalTree}
 use Rattle.fx_c_heads.specs.Written.{ty_of, is_named, is_object, has_elements}
 use Rattle.fx_c_heads.specs.Sizes.{known, is_small}
 use Rattle.fx_c_heads.specs.Heads.{HeadsTree, GlobalHead, FunctionHead, no_heads, repeats, is_declared, object_type, members_behind, types_of, names_of, is_next, struct_layout, with_struct, struct_head, is_initial, with_global, global_head, is_answer, are_params, param_names, params_of, with_function, function_head, head}
-use Rattle.fx_c_check.specs.Programs.{PlacedDecl, at_declaration, tags_of, heads_of}
+use Rattle.fx_c_types.specs.Programs.{PlacedDecl, at_declaration, tags_of, heads_of}
 use Rattle.fx_c_check_law.proofs.Ends.{Ends, bind_ends, then_ends, demand_ends, at_ends, weaker, both_end}
 use Rattle.fx_c_check_law.proofs.Known.{sized_same, table_is, structs_sized}
 use Rattle.fx_c_check_law.proofs.Heads.{all_types, length-all_types, IsSizedGlobal, IsSound, none_sound, Follows, head_ends, object_ends}

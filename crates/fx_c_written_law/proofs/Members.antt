@@ -27,9 +27,9 @@ use Rattle.fx_c_typing.specs.Structs as plain
 use Rattle.fx_c_typing.specs.Structs.{place_32}
 use Rattle.fx_c_heads.specs.Written.{ty_of, is_object}
 use Rattle.fx_c_heads.specs.Heads.{HeadsTree, GlobalHead, FunctionHead, no_heads, repeats, is_declared, object_type, members_behind, names_of, is_next, struct_layout, with_struct, struct_head, is_initial, with_global, global_head, is_answer, are_params, param_names, params_of, with_function, function_head, head}
-use Rattle.fx_c_check.specs.declared.program.SourceFile.{SourceFile}
-use Rattle.fx_c_check.specs.Programs.{PlacedDecl, ProgramTree, BodiesTree, at_declaration, ◌>>>◌, tags_of, heads_of, no_bodies, bodies_of, main_number, program_of, well_typed}
-use Rattle.fx_c_check.specs.ProgramView.{placed_in, declarations}
+use Rattle.fx_c_types.specs.declared.program.SourceFile.{SourceFile}
+use Rattle.fx_c_types.specs.Programs.{PlacedDecl, ProgramTree, BodiesTree, at_declaration, ◌>>>◌, tags_of, heads_of, no_bodies, bodies_of, main_number, program_of, well_typed}
+use Rattle.fx_c_types.specs.ProgramView.{placed_in, declarations}
 use Rattle.fx_c_check_law.specs.WellTyped.{WellTyped}
 use Rattle.fx_c_check_law.proofs.Ends.{Ends, bind_ends, then_ends, demand_ends, at_ends, weaker}
 use Rattle.fx_c_written_law.specs.Texts.{AreFilesOf, bytes_of}

@@ -23,7 +23,7 @@ use Rattle.fx_c_typing.specs.Structs.{member_at, members_of, struct_members, mem
 use Rattle.fx_c_typing.specs.Locals.{LocalTree}
 use Rattle.fx_c_typing.specs.Calls.{are_scalars, are_passed, passed, arguments, joined, putc, device_store, switch}
 use Rattle.fx_c_heads.specs.Heads.{HeadsTree, GlobalHead, FunctionHead}
-use Rattle.fx_c_types.specs.Bodies.{BodyTree, type_or_void, global_or_void, global_node, variable_node, variable, local_named, function_named, CalleeTree, numbered, head_numbered, callee, call, gate, is_long, are_one_long, first_value, spawn}
+use Rattle.fx_c_bodies.specs.Bodies.{BodyTree, type_or_void, global_or_void, global_node, variable_node, variable, local_named, function_named, CalleeTree, numbered, head_numbered, callee, call, gate, is_long, are_one_long, first_value, spawn}
 use Rattle.fx_c_check_law.proofs.Ends.{Ends, bind_ends, demand_ends}
 use Rattle.fx_c_written_law.specs.Each.{Each, EachOfAll}
 use Rattle.fx_c_written_law.specs.Fits.{IsDeviceRegister, DeviceFits, Behind, Elements}

@@ -6,8 +6,8 @@ use Rattle.fx_c_ast.specs.declared.checked.TFunction.{TFunction}
 use Rattle.fx_c_ast.specs.declared.checked.TProgram.{TProgram}
 use Rattle.fx_c_ast.specs.ParsedTrees.{decl_trees}
 use Rattle.fx_c_ast.specs.CheckedTrees.{tstmt_trees}
-use Rattle.fx_c_check.specs.declared.program.SourceFile.{SourceFile}
-use Rattle.fx_c_check.specs.ProgramView.{placed_in, declarations}
+use Rattle.fx_c_types.specs.declared.program.SourceFile.{SourceFile}
+use Rattle.fx_c_types.specs.ProgramView.{placed_in, declarations}
 use Rattle.fx_c_check_law.specs.WellTyped.{WellTyped}
 use Rattle.fx_c_strings.specs.Strings.{program_strings}
 use Rattle.fx_c_strings.proofs.Checked.{literals_written}

@@ -14,11 +14,11 @@ use Rattle.fx_c_typing.specs.Structs as plain
 use Rattle.fx_c_heads.specs.Written.{ty_of}
 use Rattle.fx_c_heads.specs.Heads.{HeadsTree, FunctionHead, no_heads, object_type}
 use Rattle.fx_c_frames.specs.Frames.{frame_size}
-use Rattle.fx_c_types.specs.Bodies.{ScopeTree, BodyTree, checked_all}
-use Rattle.fx_c_check.specs.declared.program.SourceFile.{SourceFile}
-use Rattle.fx_c_check.specs.Programs as program
-use Rattle.fx_c_check.specs.Programs.{PlacedDecl, ProgramTree, at_declaration, ◌>>>◌, tags_of, heads_of, body_from, BodiesTree, no_bodies, function_of, with_function, finished, scope_of, function_body, body_of, bodies_of, main_number, program_of, well_typed}
-use Rattle.fx_c_check.specs.ProgramView.{placed_in, declarations, function_trees}
+use Rattle.fx_c_bodies.specs.Bodies.{ScopeTree, BodyTree, checked_all}
+use Rattle.fx_c_types.specs.declared.program.SourceFile.{SourceFile}
+use Rattle.fx_c_types.specs.Programs as program
+use Rattle.fx_c_types.specs.Programs.{PlacedDecl, ProgramTree, at_declaration, ◌>>>◌, tags_of, heads_of, body_from, BodiesTree, no_bodies, function_of, with_function, finished, scope_of, function_body, body_of, bodies_of, main_number, program_of, well_typed}
+use Rattle.fx_c_types.specs.ProgramView.{placed_in, declarations, function_trees}
 use Rattle.fx_c_check_law.specs.WellTyped.{WellTyped}
 use Rattle.fx_c_check_law.proofs.Ends.{Ends, bind_ends, then_ends, demand_ends, at_ends}
 use Rattle.fx_c_check_law.proofs.Heads.{structs_in}

@@ -4,7 +4,7 @@ use Rattle.fx_c_ast.specs.declared.checked.TStruct.{TStruct}
 use Rattle.fx_c_ast.specs.declared.checked.TFunction.{TFunction}
 use Rattle.fx_c_ast.specs.declared.checked.TProgram.{TProgram}
 use Rattle.fx_c_ast.specs.CheckedTrees.{tstmt_trees, struct_types}
-use Rattle.fx_c_check.specs.declared.program.SourceFile.{SourceFile}
+use Rattle.fx_c_types.specs.declared.program.SourceFile.{SourceFile}
 use Rattle.fx_c_check_law.specs.WellTyped.{WellTyped}
 use Rattle.fx_c_typed_law.specs.Tables.{tables}
 use Rattle.fx_c_typed_law.specs.Trees.{AreRight}

@@ -2,7 +2,7 @@
 use Rattle.std.specs.Prelude.{ℕ, ◌+◌, List, [], ◌∷◌, length}
 use Rattle.fx_c_ast.specs.ParsedTrees.{decl_trees}
 use Rattle.fx_c_parse.specs.Exact.{IsTextOf}
-use Rattle.fx_c_check.specs.declared.program.SourceFile.{SourceFile}
+use Rattle.fx_c_types.specs.declared.program.SourceFile.{SourceFile}
 
 -- each file is the tree of its text
 abbrev pub AreFilesOf : List (List ℕ) → List SourceFile → Type 0

@@ -7,8 +7,8 @@ use Rattle.fx_c_ast.specs.declared.checked.TProgram.{TProgram}
 use Rattle.fx_grants.specs.Homes.{homes_of}
 use Rattle.fx_grants.specs.GrantSets.{grants_of, pair_of}
 use Rattle.fx_sections.specs.Placement.{IsPlaceable}
-use Rattle.fx_c_check.specs.declared.program.SourceFile.{SourceFile}
-use Rattle.fx_c_check.specs.ProgramView.{declarations}
+use Rattle.fx_c_types.specs.declared.program.SourceFile.{SourceFile}
+use Rattle.fx_c_types.specs.ProgramView.{declarations}
 use Rattle.fx_c_check_law.proofs.Facts.{accepted_is, few, placeable}
 use Rattle.fx_sources.specs.declared.parsing.ParsedFile.{ParsedFile}
 use Rattle.fx_sources.specs.Loading.{HasFewParts}

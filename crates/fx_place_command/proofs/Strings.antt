@@ -3,7 +3,7 @@ use Rattle.std.proofs.Common.{◌≡◌, ℕ, ◌+◌, ◌*◌, ◌≤◌, List,
 use Rattle.fx_base.specs.Files.{Held}
 use Rattle.fx_config.specs.declared.configuration.Config.{Config}
 use Rattle.fx_c_ast.specs.ParsedTrees.{decl_trees}
-use Rattle.fx_c_check.specs.ProgramView.{placed_in, declarations}
+use Rattle.fx_c_types.specs.ProgramView.{placed_in, declarations}
 use Rattle.fx_c_strings.specs.Strings.{program_strings}
 use Rattle.fx_c_strings.proofs.Written.{few_strings, strings-append, strings-placed}
 use Rattle.fx_sources.specs.declared.parsing.ParsedFile.{ParsedFile}

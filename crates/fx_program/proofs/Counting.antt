@@ -11,7 +11,7 @@ use Rattle.fx_c_parse.specs.Declarations.{units, unit_of, unit_step, declaration
 use Rattle.fx_c_parse.specs.Units.{IsUnit}
 use Rattle.fx_c_parse.specs.Exact.{IsTextOf}
 use Rattle.fx_c_parse.proofs.CompleteUnits.{unit_complete}
-use Rattle.fx_c_check.specs.ProgramView.{placed_in, declarations}
+use Rattle.fx_c_types.specs.ProgramView.{placed_in, declarations}
 use Rattle.fx_config.specs.declared.configuration.Config.{Config}
 use Rattle.fx_config.specs.declared.configuration.Library.{Library}
 use Rattle.fx_config.specs.Reading.{files_of}

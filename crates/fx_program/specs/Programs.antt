@@ -3,10 +3,10 @@ use Rattle.std.specs.Prelude.{◌≡◌, ℕ, List, map, Option, Ok, Err}
 use Rattle.fx_base.specs.Files.{Held}
 use Rattle.fx_config.specs.declared.configuration.Config.{Config as Configuration}
 use Rattle.fx_c_ast.specs.declared.checked.TProgram.{TProgram}
-use Rattle.fx_c_check.specs.declared.program.SourceFile.{SourceFile}
-use Rattle.fx_c_check.specs.declared.fault.TypeError.TheVariants.{Rule}
-use Rattle.fx_c_check.specs.Programs.{well_typed}
-use Rattle.fx_c_check.specs.ProgramView.{declarations, program_tree}
+use Rattle.fx_c_types.specs.declared.program.SourceFile.{SourceFile}
+use Rattle.fx_c_types.specs.declared.fault.TypeError.TheVariants.{Rule}
+use Rattle.fx_c_types.specs.Programs.{well_typed}
+use Rattle.fx_c_types.specs.ProgramView.{declarations, program_tree}
 use Rattle.fx_sources.specs.declared.parsing.ParsedFile.{ParsedFile}
 use Rattle.fx_sources.specs.declared.error.LoadError.TheVariants as load
 use Rattle.fx_sources.specs.Loading.{IsLoaded, LoadCause}

@@ -3,15 +3,15 @@
 ghost use Rattle.std.specs.Prelude.{◌≡◌, ◌<◌, ◌≤◌, ◌^◌, IfOk, IfErr, length};
 ghost use Rattle.fx_base.specs.Told.{Told};
 ghost use Rattle.fx_base.specs.Files.{SameFiles};
-ghost use Rattle.fx_c_check.specs.Programs.{well_typed};
-ghost use Rattle.fx_c_check.specs.ProgramView.{declarations, program_tree};
+ghost use Rattle.fx_c_types.specs.Programs.{well_typed};
+ghost use Rattle.fx_c_types.specs.ProgramView.{declarations, program_tree};
 ghost use Rattle.fx_sources.specs.Loading.{IsLoaded, HasFewParts};
 ghost use Rattle.fx_program.specs.Programs.{sources_of, IsProgramOf, ProgramCause, IsChecked, BreaksRule};
 
 use crate::error::{ProgramError, unloaded};
 use fx_base::Files;
 use fx_c_ast::checked::TProgram;
-use fx_c_check::{SourceFile, TypeError, check};
+use fx_c_types::{SourceFile, TypeError, check};
 use fx_config::Config;
 use fx_sources::{ParsedFile, Sources, load};
 use std::alloc::{AllocError, Global};

@@ -6,12 +6,12 @@ use Rattle.fx_base.specs.declared.device_op.DeviceOp.{DeviceOp}
 use Rattle.fx_device.specs.Rules.{Meaning}
 use Rattle.fx_config.specs.declared.configuration.Config.{Config}
 use Rattle.fx_c_ast.specs.declared.checked.TProgram.{TProgram}
-use Rattle.fx_c_mean.specs.declared.end.End.{End}
-use Rattle.fx_c_mean.specs.declared.rights.Rights.{Rights}
-use Rattle.fx_c_mean.specs.Laws.{IsNoDenial}
-use Rattle.fx_c_mean.specs.Programs.{Program, program_of}
-use Rattle.fx_c_mean.specs.Steps.{extra, first_state}
-use Rattle.fx_c_mean.specs.Expected.{expected}
+use Rattle.fx_c_mean_model.specs.declared.end.End.{End}
+use Rattle.fx_c_mean_model.specs.declared.rights.Rights.{Rights}
+use Rattle.fx_c_mean_model.specs.Laws.{IsNoDenial}
+use Rattle.fx_c_mean_model.specs.Programs.{Program, program_of}
+use Rattle.fx_c_mean_model.specs.Steps.{extra, first_state}
+use Rattle.fx_c_mean_model.specs.Expected.{expected}
 use Rattle.fx_outcomes.specs.Runs as runs
 use Rattle.fx_grants.specs.GrantSets.{merged_of}
 use Rattle.fx_c_rights.specs.Rights.{rights_of}

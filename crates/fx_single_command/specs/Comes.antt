@@ -6,7 +6,7 @@ use Rattle.fx_base.specs.declared.device_op.DeviceOp.{DeviceOp}
 use Rattle.fx_device.specs.Rules.{Meaning}
 use Rattle.fx_config.specs.declared.configuration.Config.{Config}
 use Rattle.fx_c_ast.specs.declared.checked.TProgram.{TProgram}
-use Rattle.fx_c_mean.specs.Programs.{program_of}
+use Rattle.fx_c_mean_model.specs.Programs.{program_of}
 use Rattle.fx_grants.specs.GrantSets.{merged_of}
 use Rattle.fx_c_rights.specs.Rights.{rights_of}
 use Rattle.fx_program.specs.declared.error.ProgramError.{ProgramError}

@@ -1,8 +1,8 @@
 -- What the end of a run in one compartment is called, and its status.
 use Rattle.std.specs.Prelude.{◌≡◌, ℕ}
-use Rattle.fx_c_mean.specs.declared.end.End.{End}
-use Rattle.fx_c_mean.specs.declared.end.End.TheVariants as end
-use Rattle.fx_c_mean.specs.Laws.{IsNoDenial}
+use Rattle.fx_c_mean_model.specs.declared.end.End.{End}
+use Rattle.fx_c_mean_model.specs.declared.end.End.TheVariants as end
+use Rattle.fx_c_mean_model.specs.Laws.{IsNoDenial}
 use Rattle.fx_single_run.specs.declared.outcome.Outcome.{Outcome}
 use Rattle.fx_single_run.specs.declared.outcome.Outcome.TheVariants as outcomes
 use Rattle.fx_single_command.specs.declared.verdict.Verdict.{Verdict}

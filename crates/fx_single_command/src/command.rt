@@ -12,7 +12,7 @@ ghost use Rattle.fx_single_command.specs.Comes.{RunsMerged, Comes};
 use crate::verdict::{Verdict, verdict_of};
 use crate::words::SingleWords;
 use fx_base::{Files, Sink, Source};
-use fx_c_mean::rights::Rights;
+use fx_c_mean_model::rights::Rights;
 use fx_c_rights::rights::rights_of;
 use fx_device::Device;
 use fx_grants::merged;

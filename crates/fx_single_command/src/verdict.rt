@@ -1,10 +1,10 @@
 //! What the end of a run in one compartment is called.
 
 ghost use Rattle.std.specs.Prelude.{◌≡◌};
-ghost use Rattle.fx_c_mean.specs.Laws.{IsNoDenial};
+ghost use Rattle.fx_c_mean_model.specs.Laws.{IsNoDenial};
 ghost use Rattle.fx_single_command.specs.Verdicts.{IsUndenied, Calls, IsCalled, status_of};
 
-use fx_c_mean::end::End;
+use fx_c_mean_model::end::End;
 use fx_single_run::Outcome;
 
 /// What the end of a run is called.

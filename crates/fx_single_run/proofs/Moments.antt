@@ -5,13 +5,13 @@ use Rattle.fx_base.specs.Faults.{Rose}
 use Rattle.fx_base.specs.Told.{Told}
 use Rattle.fx_device.specs.Rules.{Meaning}
 use Rattle.fx_device.specs.Bus.{box_of, none}
-use Rattle.fx_c_mean.specs.declared.end.End.{End}
-use Rattle.fx_c_mean.specs.declared.rights.Rights.{Rights}
-use Rattle.fx_c_mean.specs.Programs.{Program}
-use Rattle.fx_c_mean.specs.Steps.{State, extra}
-use Rattle.fx_c_mean.specs.Expected.{Run as SourceRun}
-use Rattle.fx_c_runner.specs.declared.runner.Walk.{Walk}
-use Rattle.fx_c_runner.specs.Walks.{Run, Finishes, first_run, more_cost, Requests, AsksInput}
+use Rattle.fx_c_mean_model.specs.declared.end.End.{End}
+use Rattle.fx_c_mean_model.specs.declared.rights.Rights.{Rights}
+use Rattle.fx_c_mean_model.specs.Programs.{Program}
+use Rattle.fx_c_mean_model.specs.Steps.{State, extra}
+use Rattle.fx_c_mean_model.specs.Expected.{Run as SourceRun}
+use Rattle.fx_c_mean.specs.declared.runner.Walk.{Walk}
+use Rattle.fx_c_mean.specs.Walks.{Run, Finishes, first_run, more_cost, Requests, AsksInput}
 use Rattle.fx_c_runs.specs.Counting.{answers_of, started, cost_of, run_after}
 use Rattle.fx_c_runs.specs.Reached.{Reached, BegunBelow, Came}
 use Rattle.fx_c_runs.proofs.Reaching.{cost_more, stands, comes, begun_last, advances}

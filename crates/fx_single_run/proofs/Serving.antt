@@ -9,7 +9,7 @@ use Rattle.fx_device.specs.Rules.{Meaning, Held, Failed, Request, left_in, load,
 use Rattle.fx_device.specs.Bus.{BusState, box_of, with_box, operation, operations_of, silence, Ends, Lands, Carries, Leads, none, answered}
 use Rattle.fx_device.specs.declared.bus_error.BusError.TheVariants as errors
 use Rattle.fx_device.proofs.Boxes.{box_of-with_box, box_of-with_box_other, box_of-with_none}
-use Rattle.fx_c_runner.specs.Walks.{request_of, is_console, Notes, Makes}
+use Rattle.fx_c_mean.specs.Walks.{request_of, is_console, Notes, Makes}
 use Rattle.fx_c_runs.proofs.Stepping.{requested}
 use Rattle.fx_single_run.specs.Streams.{all_ones}
 use Rattle.fx_single_run.specs.Devices.{AllOnes, console_others, Part, Served, Devices}

@@ -5,12 +5,12 @@ use Rattle.std.proofs.lemmas.Option.{MatchOption-at_none}
 use Rattle.fx_base.specs.Faults.{Rose}
 use Rattle.fx_base.specs.Sink.{Gains}
 use Rattle.fx_base.specs.Told.{Told}
-use Rattle.fx_c_mean.specs.declared.end.End.{End}
-use Rattle.fx_c_mean.specs.declared.end.End.TheVariants as end
-use Rattle.fx_c_mean.specs.Steps.{operation}
-use Rattle.fx_c_runner.specs.declared.runner.Walk.{Walk}
-use Rattle.fx_c_runner.specs.declared.runner.Walk.TheVariants as walk
-use Rattle.fx_c_runner.specs.Walks.{Run, walk_of, GoesOn, Finishes, MakesStep, Walked}
+use Rattle.fx_c_mean_model.specs.declared.end.End.{End}
+use Rattle.fx_c_mean_model.specs.declared.end.End.TheVariants as end
+use Rattle.fx_c_mean_model.specs.Steps.{operation}
+use Rattle.fx_c_mean.specs.declared.runner.Walk.{Walk}
+use Rattle.fx_c_mean.specs.declared.runner.Walk.TheVariants as walk
+use Rattle.fx_c_mean.specs.Walks.{Run, walk_of, GoesOn, Finishes, MakesStep, Walked}
 use Rattle.fx_c_runs.proofs.Loads.{asking, goes_made}
 use Rattle.fx_c_runs.proofs.Stepping.{one_of}
 use Rattle.fx_single_run.specs.declared.outcome.Outcome.{Outcome}

@@ -3,9 +3,9 @@ use Rattle.std.proofs.Common.{◌≡◌, ℕ, ◌%◌, ◌≤◌, List, [], ◌�
 use Rattle.std.specs.Prelude.{not, ◌&&◌, ◌==◌}
 use Rattle.fx_base.specs.declared.device_op.DeviceOp.{DeviceOp}
 use Rattle.fx_base.specs.Told.{Told}
-use Rattle.fx_c_runner.specs.declared.runner.Walk.{Walk}
-use Rattle.fx_c_runner.specs.declared.runner.Walk.TheVariants as walk
-use Rattle.fx_c_runner.specs.Walks.{says, takes_input}
+use Rattle.fx_c_mean.specs.declared.runner.Walk.{Walk}
+use Rattle.fx_c_mean.specs.declared.runner.Walk.TheVariants as walk
+use Rattle.fx_c_mean.specs.Walks.{says, takes_input}
 use Rattle.fx_single_run.specs.Streams.{output_of, outputs, input_of, inputs, Reads, Gained, LostOne}
 
 pub told_same : {A : Type 0} (R : A → A → Type 0) → ((x : A) → R x x) → (o : Option A) → Told R o o

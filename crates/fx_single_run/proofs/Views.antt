@@ -3,12 +3,12 @@ use Rattle.std.proofs.Common.{◌≡◌, ℕ, List, [], Option, ap, sym, ◌∙�
 use Rattle.fx_base.specs.declared.device_op.DeviceOp.{DeviceOp}
 use Rattle.fx_device.specs.Rules.{Meaning}
 use Rattle.fx_device.specs.Bus.{BusState, bus_state}
-use Rattle.fx_c_mean.specs.declared.end.End.{End}
-use Rattle.fx_c_mean.specs.declared.rights.Rights.{Rights}
-use Rattle.fx_c_mean.specs.Programs.{Program}
+use Rattle.fx_c_mean_model.specs.declared.end.End.{End}
+use Rattle.fx_c_mean_model.specs.declared.rights.Rights.{Rights}
+use Rattle.fx_c_mean_model.specs.Programs.{Program}
 use Rattle.fx_c_acts.specs.declared.state.Core.{Core}
 use Rattle.fx_c_acts.specs.declared.source.Source.{Source}
-use Rattle.fx_c_runner.specs.Walks.{Run, run_of, first_run}
+use Rattle.fx_c_mean.specs.Walks.{Run, run_of, first_run}
 
 abbrev pub run_with : {A : Type 0} → Source → Core → List (Option A) → List DeviceOp → ℕ → Option End → (A → Meaning) → Run
 run_with source core boxes ops cost finish meaning = run_of source core (bus_state meaning boxes ops) cost finish

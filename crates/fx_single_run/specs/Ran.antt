@@ -4,11 +4,11 @@ use Rattle.fx_base.specs.declared.device_op.DeviceOp.{DeviceOp}
 use Rattle.fx_base.specs.Faults.{Rose}
 use Rattle.fx_device.specs.Rules.{Meaning, Held, Request, Failed}
 use Rattle.fx_device.specs.Bus.{box_of, operations_of, Leads}
-use Rattle.fx_c_mean.specs.declared.end.End.{End}
-use Rattle.fx_c_mean.specs.declared.rights.Rights.{Rights}
-use Rattle.fx_c_mean.specs.Programs.{Program}
-use Rattle.fx_c_mean.specs.Steps.{State}
-use Rattle.fx_c_runner.specs.Walks.{Requests, AsksInput}
+use Rattle.fx_c_mean_model.specs.declared.end.End.{End}
+use Rattle.fx_c_mean_model.specs.declared.rights.Rights.{Rights}
+use Rattle.fx_c_mean_model.specs.Programs.{Program}
+use Rattle.fx_c_mean_model.specs.Steps.{State}
+use Rattle.fx_c_mean.specs.Walks.{Requests, AsksInput}
 use Rattle.fx_c_runs.specs.Counting.{answers_of, started, cost_of, run_after}
 use Rattle.fx_c_runs.specs.Reached.{Came}
 use Rattle.fx_single_run.specs.Streams.{outputs, inputs, Reads, ReadsMore, Gained, GainedButLast}

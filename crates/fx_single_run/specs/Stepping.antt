@@ -2,11 +2,11 @@
 use Rattle.std.specs.Prelude.{ℕ, ◌≡◌, ◌⊎◌, List, [], ◌∷◌, Option, Some, None}
 use Rattle.fx_base.specs.Faults.{Rose}
 use Rattle.fx_base.specs.Told.{Told}
-use Rattle.fx_c_mean.specs.declared.end.End.{End}
-use Rattle.fx_c_mean.specs.declared.end.End.TheVariants as end
-use Rattle.fx_c_runner.specs.declared.runner.Walk.{Walk}
-use Rattle.fx_c_runner.specs.declared.runner.Walk.TheVariants as walk
-use Rattle.fx_c_runner.specs.Walks.{Run, GoesOn, Finishes, Faults, AsksInput}
+use Rattle.fx_c_mean_model.specs.declared.end.End.{End}
+use Rattle.fx_c_mean_model.specs.declared.end.End.TheVariants as end
+use Rattle.fx_c_mean.specs.declared.runner.Walk.{Walk}
+use Rattle.fx_c_mean.specs.declared.runner.Walk.TheVariants as walk
+use Rattle.fx_c_mean.specs.Walks.{Run, GoesOn, Finishes, Faults, AsksInput}
 use Rattle.fx_single_run.specs.Streams.{outputs, inputs, Reads, Gained, Same, LostOne}
 use Rattle.fx_single_run.specs.declared.outcome.Outcome.{Outcome}
 use Rattle.fx_single_run.specs.declared.outcome.Outcome.TheVariants.{Ended, Spent, Device, ReadFault, WriteFault, OutOfMemory}

@@ -1,6 +1,6 @@
 //! How a run ends.
 
-use fx_c_mean::end::End;
+use fx_c_mean_model::end::End;
 
 /// How a run ended.
 #[derive(Clone, Copy, Debug, PartialEq, Eq)]

@@ -3,8 +3,8 @@
 ghost use Rattle.std.specs.Prelude.{⊤, ◌≡◌, ◌≤◌, ℕ, [], length, map, option_map};
 ghost use Rattle.fx_base.specs.Told.{Told};
 ghost use Rattle.fx_device.specs.Bus.{bus_state, plugged};
-ghost use Rattle.fx_c_mean.specs.Programs.{program_of};
-ghost use Rattle.fx_c_runner.specs.Walks.{run_of, first_run};
+ghost use Rattle.fx_c_mean_model.specs.Programs.{program_of};
+ghost use Rattle.fx_c_mean.specs.Walks.{run_of, first_run};
 ghost use Rattle.fx_single_run.specs.Ran.{RunsTo, Output, Input, no_memory};
 
 use crate::Ran;
@@ -12,8 +12,8 @@ use crate::outcome::Outcome;
 use crate::step::step_once;
 use fx_base::{Sink, Source, Transcript};
 use fx_c_ast::checked::TProgram;
-use fx_c_mean::rights::Rights;
-use fx_c_runner::runner::Runner;
+use fx_c_mean::runner::Runner;
+use fx_c_mean_model::rights::Rights;
 use fx_device::{Bus, Device};
 use std::alloc::Global;
 

@@ -4,15 +4,15 @@ ghost use Rattle.std.specs.Prelude.{⊤, ◌≡◌, ◌≤◌, ℕ, List, [], �
 ghost use Rattle.fx_base.specs.Faults.{Rose};
 ghost use Rattle.fx_base.specs.Told.{Told};
 ghost use Rattle.fx_device.specs.Bus.{bus_state};
-ghost use Rattle.fx_c_runner.specs.Walks.{run_of, Waits};
+ghost use Rattle.fx_c_mean.specs.Walks.{run_of, Waits};
 ghost use Rattle.fx_single_run.specs.declared.outcome.Outcome.TheVariants.{Ended};
 ghost use Rattle.fx_single_run.specs.Streams.{Answers, Gained, Same};
 ghost use Rattle.fx_single_run.specs.Stepping.{end_at, Taken, NotTaken, NotPut, WentOn, EndsBy};
 
 use crate::outcome::Outcome;
 use fx_base::{Sink, Source, put_all};
-use fx_c_mean::end::End;
-use fx_c_runner::runner::{Runner, Walk};
+use fx_c_mean::runner::{Runner, Walk};
+use fx_c_mean_model::end::End;
 use fx_device::Device;
 
 /// The answer to a load of the console: the next byte of input, and all ones at its end. None where the

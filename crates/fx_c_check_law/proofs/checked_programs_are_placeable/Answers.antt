@@ -1,5 +1,5 @@
 use Rattle.std.proofs.Common.{length}
-use Rattle.fx_c_check.specs.ProgramView.{declarations}
+use Rattle.fx_c_types.specs.ProgramView.{declarations}
 use Rattle.fx_c_check_law.proofs.Facts.{accepted_is, placeable}
 use Rattle.fx_c_check_law.proofs.checked_programs_are_placeable.Goals as goal
 

@@ -1,4 +1,4 @@
-use Rattle.fx_c_check.specs.ProgramView.{program_tree}
+use Rattle.fx_c_types.specs.ProgramView.{program_tree}
 use Rattle.fx_c_check_law.proofs.Judged.{one_program}
 use Rattle.fx_c_check_law.proofs.programs_are_determined.Goals as goal
 

@@ -1,6 +1,6 @@
 use Rattle.std.proofs.Common.{◌≡◌, ◌+◌, ◌<◌, length, refl, arith}
 use Rattle.std.proofs.lemmas.Grind.{common_steps}
-use Rattle.fx_c_mean.specs.Programs.{program_of}
+use Rattle.fx_c_mean_model.specs.Programs.{program_of}
 use Rattle.fx_c_control.specs.Views.{values_of}
 use Rattle.fx_c_acts.proofs.Callers.{objects_more, front_more}
 use Rattle.fx_c_acts.proofs.calls.add_objects.Goals as goal

@@ -1,5 +1,5 @@
 use Rattle.std.proofs.Common.{◌≡◌, ◌++◌, map, take, drop, length}
-use Rattle.fx_c_mean.specs.Programs.{program_of, variable_of, call_objects}
+use Rattle.fx_c_mean_model.specs.Programs.{program_of, variable_of, call_objects}
 use Rattle.fx_c_control.specs.Views.{values_of}
 use Rattle.fx_c_acts.proofs.calls.add_objects.Given as goal
 

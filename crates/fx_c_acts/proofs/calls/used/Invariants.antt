@@ -1,6 +1,6 @@
 use Rattle.std.proofs.Common.{◌≡◌, ◌+◌, ◌-◌, ◌^◌, ◌≤◌, min, drop}
-use Rattle.fx_c_mean.specs.Programs.{program_of}
-use Rattle.fx_c_mean.specs.Steps.{use_of}
+use Rattle.fx_c_mean_model.specs.Programs.{program_of}
+use Rattle.fx_c_mean_model.specs.Steps.{use_of}
 use Rattle.fx_c_control.specs.Views.{frames_of}
 use Rattle.fx_c_acts.proofs.calls.used.Given as goal
 

@@ -1,5 +1,5 @@
 use Rattle.std.proofs.Common.{◌≤◌, length, drop}
-use Rattle.fx_c_check.specs.ProgramView.{declarations}
+use Rattle.fx_c_types.specs.ProgramView.{declarations}
 use Rattle.fx_c_check_cases.proofs.program.are_few.Given as goal
 
 abbrev pub invariant-loop-file : goal.invariant-loop-file

@@ -1,6 +1,6 @@
 use Rattle.std.proofs.Common.{sym, ap}
 use Rattle.fx_c_ast.proofs.Rows.{tblock_is}
-use Rattle.fx_c_mean.specs.States.{begin, follow}
+use Rattle.fx_c_mean_model.specs.States.{begin, follow}
 use Rattle.fx_c_control.specs.Views.{frames_of}
 use Rattle.fx_c_control.proofs.control.begin.Goals as goal
 

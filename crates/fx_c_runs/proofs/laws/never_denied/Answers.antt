@@ -1,4 +1,4 @@
-use Rattle.fx_c_mean.specs.Steps.{extra, first_state}
+use Rattle.fx_c_mean_model.specs.Steps.{extra, first_state}
 use Rattle.fx_c_runs.proofs.Reaching.{undenied, unguarded_free}
 use Rattle.fx_c_runs.proofs.laws.never_denied.Goals as goal
 

@@ -1,5 +1,5 @@
 use Rattle.std.proofs.Common.{◌≡◌, length, ap, arith}
-use Rattle.fx_c_check.specs.ProgramView.{declarations}
+use Rattle.fx_c_types.specs.ProgramView.{declarations}
 use Rattle.fx_program.specs.Programs.{sources_of}
 use Rattle.fx_program.proofs.Counting.{few_declarations}
 use Rattle.fx_program.proofs.loading.load_program.Goals as goal

@@ -2,8 +2,8 @@ use Rattle.std.proofs.Common.{ℕ, List, [], Option, refl}
 use Rattle.fx_base.specs.declared.device_op.DeviceOp.{DeviceOp}
 use Rattle.fx_device.specs.Bus.{plugged}
 use Rattle.fx_device.specs.Rules.{Meaning}
-use Rattle.fx_c_mean.specs.declared.rights.Rights.{Rights}
-use Rattle.fx_c_mean.specs.Programs.{Program, program_of}
+use Rattle.fx_c_mean_model.specs.declared.rights.Rights.{Rights}
+use Rattle.fx_c_mean_model.specs.Programs.{Program, program_of}
 use Rattle.fx_single_run.specs.Ran.{RunsTo}
 use Rattle.fx_single_run.proofs.Views.{run_with, bus_with, starts, from_start}
 use Rattle.fx_single_run.proofs.Moments.{nothing_ran}

@@ -1,4 +1,4 @@
-use Rattle.fx_c_runner.proofs.Waiting.{waits}
+use Rattle.fx_c_mean.proofs.Waiting.{waits}
 use Rattle.fx_single_run.proofs.Views.{run_with}
 use Rattle.fx_single_run.proofs.Stepped.{by_went, by_output, by_unput, by_ended, by_fault, by_want, by_taken, by_not_taken, none_map, some_map}
 use Rattle.fx_single_run.proofs.step.step_once.Goals as goal

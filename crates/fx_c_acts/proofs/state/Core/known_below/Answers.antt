@@ -1,6 +1,6 @@
 use Rattle.std.proofs.Common.{◌≡◌, ◌+◌, ◌<◌, length, drop, Option, sym, subst, ◌∙◌, arith}
-use Rattle.fx_c_mean.specs.Programs.{program_of}
-use Rattle.fx_c_mean.specs.Steps.{use_of}
+use Rattle.fx_c_mean_model.specs.Programs.{program_of}
+use Rattle.fx_c_mean_model.specs.Steps.{use_of}
 use Rattle.fx_c_control.specs.Views.{call_of, frames_of}
 use Rattle.fx_c_acts.specs.declared.uses.StackUse.{StackUse}
 use Rattle.fx_c_acts.specs.Uses.{IsKnown}

@@ -1,5 +1,5 @@
 use Rattle.std.proofs.Common.{◌≡◌, drop}
-use Rattle.fx_c_mean.specs.States.{unwind}
+use Rattle.fx_c_mean_model.specs.States.{unwind}
 use Rattle.fx_c_control.specs.Views.{frames_of}
 use Rattle.fx_c_acts.proofs.state.Core.return_extra.Given as goal
 

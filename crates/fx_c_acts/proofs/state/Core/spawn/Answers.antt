@@ -1,8 +1,8 @@
 use Rattle.std.proofs.Common.{◌≡◌, List, [], ◌∷◌, ap, length, ◌∙◌, arith}
 use Rattle.std.proofs.lemmas.Grind.{common_steps}
 use Rattle.fx_c_blocks.specs.declared.value.Value.{Value}
-use Rattle.fx_c_mean.specs.States.{Does, Enter, First}
-use Rattle.fx_c_mean.specs.Steps as steps
+use Rattle.fx_c_mean_model.specs.States.{Does, Enter, First}
+use Rattle.fx_c_mean_model.specs.Steps as steps
 use Rattle.fx_c_control.specs.declared.frames.Frame.{Frame}
 use Rattle.fx_c_control.specs.declared.frames.Way.TheVariants as way
 use Rattle.fx_c_control.specs.declared.frames.Act.TheVariants as act

@@ -1,4 +1,4 @@
-use Rattle.fx_c_mean.specs.Programs.{program_of}
+use Rattle.fx_c_mean_model.specs.Programs.{program_of}
 use Rattle.fx_c_control.specs.Views.{act_of, frames_of}
 use Rattle.fx_c_acts.specs.Cores.{state_of}
 use Rattle.fx_c_acts.proofs.Steady.{after_step}

@@ -1,7 +1,7 @@
 use Rattle.std.proofs.Common.{◌≢◌, List, ap, arith}
 use Rattle.fx_c_blocks.specs.declared.value.Value.TheVariants.{Void}
-use Rattle.fx_c_mean.specs.States.{give}
-use Rattle.fx_c_mean.specs.Steps as steps
+use Rattle.fx_c_mean_model.specs.States.{give}
+use Rattle.fx_c_mean_model.specs.Steps as steps
 use Rattle.fx_c_control.specs.declared.frames.Frame.{Frame}
 use Rattle.fx_c_control.specs.Views.{call_of, frames_of, spot_of}
 use Rattle.fx_c_acts.specs.Cores.{state_of}

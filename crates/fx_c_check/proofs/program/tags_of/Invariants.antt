@@ -1,7 +1,0 @@
-use Rattle.std.proofs.Common.{◌≡◌, drop, []}
-use Rattle.fx_c_check.specs.Programs.{tags_of}
-use Rattle.fx_c_check.specs.ProgramView.{placed_trees}
-use Rattle.fx_c_check.proofs.program.tags_of.Given as goal
-
-abbrev pub invariant-loop-placed : goal.invariant-loop-placed
-invariant-loop-placed l = tags_of l.tags (placed_trees (drop l.placed-index l.all)) ≡ tags_of [] (placed_trees l.all)

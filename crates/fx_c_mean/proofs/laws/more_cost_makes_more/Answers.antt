@@ -1,7 +1,0 @@
-use Rattle.fx_c_mean.specs.Steps.{extra, first_state}
-use Rattle.fx_c_mean.specs.Expected.{run_step}
-use Rattle.fx_c_mean.proofs.Growing.{grows}
-use Rattle.fx_c_mean.proofs.laws.more_cost_makes_more.Goals as goal
-
-pub returns : goal.returns
-returns c = λ p r answers k j le. grows (run_step p r) (λ x. extra p x.state) k j (extra p (first_state p)) (record { state = first_state p; answers = answers }) le

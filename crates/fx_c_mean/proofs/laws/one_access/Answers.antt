@@ -1,5 +1,0 @@
-use Rattle.fx_c_mean.proofs.Writing.{by_access}
-use Rattle.fx_c_mean.proofs.laws.one_access.Goals as goal
-
-pub returns : goal.returns
-returns c = λ p r answer s no. by_access p r answer s s.spot no

@@ -1,0 +1,28 @@
+use Rattle.std.proofs.Common.{[], ◌∷◌, true, rules}
+use Rattle.fx_c_blocks.specs.declared.value.Value.TheVariants.{Number, Void}
+use Rattle.fx_c_mean_model.specs.Programs.{program_of}
+use Rattle.fx_c_control.specs.Views.{frames_of}
+use Rattle.fx_c_acts.specs.Cores.{state_of}
+use Rattle.fx_c_mean.specs.Walks.{is_console}
+use Rattle.fx_c_mean.proofs.Inputs.{no_load}
+use Rattle.fx_c_mean.proofs.Known.{stored}
+use Rattle.fx_c_mean.proofs.runner.Runner.store.Goals as goal
+
+pub returns-in-Ok-clause-made : goal.returns-in-Ok-clause-made
+returns-in-Ok-clause-made g c = (
+  0,
+  record {
+    made = record { device = c.args.device; reg = c.args.register; write = true; value = c.args.value } ∷ [];
+    step = search rules;
+    bus = search rules;
+    says = search rules;
+    same = search rules;
+  },
+  no_load (is_console c.args.device c.args.register),
+)
+
+pub invariant_of-self : goal.invariant_of-self
+invariant_of-self g c =
+    let s = c.args.self.now in record {
+      known_use = stored (program_of s.source.program.now) s.source.rights s.known c.args.device c.args.register (Number c.args.value) Void (frames_of s.core.frames) (state_of s.core) (state_of c.give.new.self) c.give.result c.requires c.give.ensures.comes c.give.ensures.done s.known_use;
+    }

@@ -1,0 +1,8 @@
+mod Texts
+mod Rows
+mod Undefined
+mod Costs
+pub mod Growing
+pub mod Every
+pub mod Denials
+pub mod Writing

@@ -1,4 +1,0 @@
-pub mod Starts
-pub mod Waiting
-pub mod Inputs
-pub mod Known
