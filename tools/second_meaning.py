@@ -40,7 +40,7 @@ import sys
 import tempfile
 
 import second_reader
-from second_reader import (CHAR, INT, LONG, SIZES, VOID, Body, Program, Refused, configuration,
+from second_reader import (CHAR, INT, LONG, ONE, SIZES, VOID, Body, Program, Refused, configuration,
                            decayed, is_int, is_pointer, parsed, promoted, spelled, usual)
 
 DEFAULT_BUDGET = 50_000_000
@@ -931,16 +931,6 @@ def single(words, files, world, failing_files=()):
 
 # ---------------------------------------------------------------------------
 # The cases of the stored run
-
-ONE = """mechanism = "call"
-[[library]]
-name = "a"
-files = ["a.c"]
-[[compartment]]
-name = "a"
-libraries = ["a"]
-"""
-
 
 class Case:
     """A case of the stored run, in the form that its program reads."""
