@@ -1,5 +1,5 @@
 #!/usr/bin/env python3
-"""Compares the spellings that `fx_encodings` prints with two other programs.
+"""Compares the spellings that `fx_cpu_test` prints with two other programs.
 
 Each line of the program is an instruction and its spelling. This script writes the instruction in
 Intel's syntax and asks:
@@ -9,7 +9,7 @@ Intel's syntax and asks:
   bits, it chooses that one, and there is nothing to compare.
 
 Usage: encodings.py PROGRAM [DRAWS]
-PROGRAM is the built `fx_encodings`; DRAWS is how many instructions are drawn, 60000 if not said.
+PROGRAM is the built `fx_cpu_test`; DRAWS is how many instructions are drawn, 60000 if not said.
 Where a tool is missing, its part is skipped, and says so.
 """
 

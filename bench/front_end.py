@@ -1,7 +1,7 @@
 #!/usr/bin/env python3
 """Times of the front end's text half on a source of 1 MiB, against gcc -fsyntax-only or tcc -c.
 
-Build the test program first, by `rt test` in crates/fx_c_front_cases. Each test named
+Build the test program first, by `rt test` in crates/fx_c_types_test. Each test named
 below reads texts of 1 MiB as often as its row says; the time printed is that of one text. The yardstick
 is measured in the same run on declarations of the same length, and the ratio is to it.
 """
@@ -19,8 +19,8 @@ SIZE = 1 << 20
 
 # crate, test, texts of 1 MiB that it reads
 TESTS = [
-    ("fx_c_front_cases", "lexer::long_names_and_texts", 2),
-    ("fx_c_front_cases", "parser::one_mebibyte", 2),
+    ("fx_c_types_test", "lexer::long_names_and_texts", 2),
+    ("fx_c_types_test", "parser::one_mebibyte", 2),
 ]
 
 

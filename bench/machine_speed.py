@@ -1,7 +1,7 @@
 #!/usr/bin/env python3
 """Turns a second of the machine, under `call` and under `light`, against plain Rust, and the memory of a run.
 
-Builds `crates/fx_speed` by `rt run` and, where rustc is installed, `bench/machine_speed.rs`, the same machine
+Builds `crates/fx_machine_speed` by `rt run` and, where rustc is installed, `bench/machine_speed.rs`, the same machine
 loop in plain Rust, by `rustc -O`. Both run a loop of ten instructions: two loads, three stores, four of
 arithmetic and a jump. The machine is to make at least 60 million turns a second, and 0.6 of what plain Rust makes.
 
@@ -38,7 +38,7 @@ import time
 from pathlib import Path
 
 ROOT = Path(__file__).resolve().parent.parent
-CRATE = ROOT / "crates" / "fx_speed"
+CRATE = ROOT / "crates" / "fx_machine_speed"
 FLEXOS = ROOT / "crates" / "flexos" / "out" / "flexos"
 LOOKS = 30
 ROUNDS = 600_000
@@ -152,7 +152,7 @@ def small_image():
 
 def runs_in_little_memory(program, rounds, folder):
     """Prints the memory of runs, and says whether it is as little as wanted."""
-    runs = [("fx_speed", [str(program), "0", str(rounds)])]
+    runs = [("fx_machine_speed", [str(program), "0", str(rounds)])]
     if FLEXOS.exists():
         image = Path(folder) / "small.img"
         image.write_bytes(small_image())
@@ -202,7 +202,7 @@ def main(arguments):
         sys.exit(__doc__)
     looks, rounds = [int(it) for it in arguments] + [LOOKS, ROUNDS][len(arguments):]
     subprocess.run(["rt", "run", "--", "0", "1"], cwd=CRATE, check=True, stdout=subprocess.DEVNULL)
-    program = CRATE / "out" / "fx_speed"
+    program = CRATE / "out" / "fx_machine_speed"
     with tempfile.TemporaryDirectory() as folder:
         good = runs_fast(program, plain_rust(folder), looks, rounds)
         good &= runs_in_little_memory(program, 10 * rounds, folder)

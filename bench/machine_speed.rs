@@ -1,6 +1,6 @@
 //! The machine's loop in plain Rust, as a yardstick for `machine_speed.py`.
 //!
-//! It does what `fx_speed` does, on the same program: `machine_speed MECHANISM ROUNDS` prints the stop and
+//! It does what `fx_machine_speed` does, on the same program: `machine_speed MECHANISM ROUNDS` prints the stop and
 //! the number of turns. A turn checks the fetch and each access by the page's entry, which a buffer of 64
 //! keeps, and by PKRU; the code is decoded once, and words are read and written whole where they lie in one
 //! page.

@@ -1,7 +1,7 @@
 #!/usr/bin/env python3
 """Compares what the image's reader answers with a second reader, written here from the format's table.
 
-Build `fx_image_check` first (`rt run` in its folder). The script makes an image by hand for each
+Build `fx_image_test` first (`rt run` in its folder). The script makes an image by hand for each
 mechanism and version, flips each bit of each of its bytes (in the code one bit of each byte, since a
 rule speaks of its WRPKRUs alone), cuts each of its prefixes, draws changes of several bytes, and asks the
 program and the reader below for the answers: an image, or the first refusal in the order of the fields.
@@ -21,7 +21,7 @@ import sys
 import time
 
 ROOT = pathlib.Path(__file__).resolve().parent.parent
-PROGRAM = ROOT / "crates" / "fx_image_check" / "out" / "fx_image_check"
+PROGRAM = ROOT / "crates" / "fx_image_test" / "out" / "fx_image_test"
 DRAWS = 2000
 PAGE = 4096
 MECHANISMS = {"call": 0, "light": 1, "full": 2, "ept": 3}

@@ -2,15 +2,15 @@
 use Rattle.std.proofs.Common.{◌≡◌, ℕ, List, [], ◌∷◌, length, Option, None, Result, Ok, Err, inl, inr, sym, ◌∙◌, ap, subst, arith, codes}
 use Rattle.fx_base.specs.Told.{Told}
 use Rattle.fx_base.specs.Files.{Held, SameFiles}
-use Rattle.fx_placing.specs.Placing.{TookNothing}
-use Rattle.fx_placing.specs.declared.placing.Unplaced.TheVariants as unplaced
-use Rattle.fx_program.specs.declared.error.ProgramError.TheVariants as program
-use Rattle.fx_place_command.specs.Failures.{failure_status}
-use Rattle.fx_place_command.specs.Comes.{Comes, PlacesProgram}
-use Rattle.fx_place_command.specs.Reports.{Reports}
-use Rattle.fx_place_command.specs.declared.failure.PlaceFailure.{PlaceFailure}
-use Rattle.fx_place_command.specs.declared.failure.PlaceFailure.TheVariants.{Program, Placing}
-use Rattle.fx_run_words.specs.Words.{run_words, exec_words}
+use Rattle.fx_cmd_place.specs.Placing.{TookNothing}
+use Rattle.fx_cmd_place.specs.declared.placing.Unplaced.TheVariants as unplaced
+use Rattle.fx_cmd_load.specs.declared.program_error.ProgramError.TheVariants as program
+use Rattle.fx_cmd_place.specs.Failures.{failure_status}
+use Rattle.fx_cmd_place.specs.Comes.{Comes, PlacesProgram}
+use Rattle.fx_cmd_place.specs.Reports.{Reports}
+use Rattle.fx_cmd_place.specs.declared.failure.PlaceFailure.{PlaceFailure}
+use Rattle.fx_cmd_place.specs.declared.failure.PlaceFailure.TheVariants.{Program, Placing}
+use Rattle.fx_cmd_base.specs.Words.{run_words, exec_words}
 use Rattle.flexos.specs.Words.{IsPlace}
 use Rattle.flexos.specs.Places.{DoesPlace, DonePlace}
 

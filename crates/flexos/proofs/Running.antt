@@ -4,21 +4,21 @@ use Rattle.fx_base.specs.Told.{Told}
 use Rattle.fx_device.specs.Rules.{Meaning}
 use Rattle.fx_image.specs.declared.forms.Image.{Image}
 use Rattle.fx_run_core.specs.Ran.{Gained}
-use Rattle.fx_verdicts.specs.Lines.{line_of}
-use Rattle.fx_verdicts.specs.Verdicts.{status_of}
-use Rattle.fx_verdicts.specs.declared.verdict.Verdict.{Verdict}
-use Rattle.fx_verdicts.specs.declared.verdict.Verdict.TheVariants.{Exited, Denied, StackFull, Divide, BadThread, ThreadsFull, Invalid, Protection, Aborted, Page, Spent, DeviceFault, ReadFault, WriteFault, OutOfMemory}
+use Rattle.fx_cmd_run.specs.VerdictLines.{line_of}
+use Rattle.fx_cmd_run.specs.Verdicts.{status_of}
+use Rattle.fx_cmd_run.specs.declared.verdict.Verdict.{Verdict}
+use Rattle.fx_cmd_run.specs.declared.verdict.Verdict.TheVariants.{Exited, Denied, StackFull, Divide, BadThread, ThreadsFull, Invalid, Protection, Aborted, Page, Spent, DeviceFault, ReadFault, WriteFault, OutOfMemory}
 use Rattle.std.specs.Prelude.{◌&&◌, bytes_eq}
 use Rattle.std.proofs.lemmas.Slice.Eq.{bytes_eq-Decides}
-use Rattle.fx_run_words.specs.Words.{RunGiven, ExecGiven, is_file_name, run_words, exec_words}
-use Rattle.fx_run_command.proofs.Statuses.{reports_usage}
-use Rattle.fx_exec_command.specs.Does.{DoesExec}
-use Rattle.fx_run_command.specs.Comes.{Streams, Ran, Comes}
-use Rattle.fx_run_command.specs.Lines.{unbegun_status}
-use Rattle.fx_run_command.specs.Reports.{Reports, Does}
-use Rattle.fx_run_command.specs.declared.command.Finished.{Finished}
-use Rattle.fx_run_command.specs.declared.load.Unbegun.{Unbegun}
-use Rattle.fx_run_command.specs.declared.load.Unbegun.TheVariants as unbegun
+use Rattle.fx_cmd_base.specs.Words.{RunGiven, ExecGiven, is_file_name, run_words, exec_words}
+use Rattle.fx_cmd_run.proofs.Statuses.{reports_usage}
+use Rattle.fx_cmd_exec.specs.Does.{DoesExec}
+use Rattle.fx_cmd_run.specs.Comes.{Streams, Ran, Comes}
+use Rattle.fx_cmd_run.specs.Lines.{unbegun_status}
+use Rattle.fx_cmd_run.specs.Reports.{Reports, Does}
+use Rattle.fx_cmd_run.specs.declared.command.Finished.{Finished}
+use Rattle.fx_cmd_run.specs.declared.load.Unbegun.{Unbegun}
+use Rattle.fx_cmd_run.specs.declared.load.Unbegun.TheVariants as unbegun
 use Rattle.flexos.specs.Words.{IsExec, IsRun}
 use Rattle.flexos.specs.Runs.{DoneRun}
 

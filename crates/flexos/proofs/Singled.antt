@@ -4,18 +4,18 @@ use Rattle.std.specs.Prelude.{◌&&◌, bytes_eq}
 use Rattle.std.proofs.lemmas.Slice.Eq.{bytes_eq-Decides}
 use Rattle.fx_base.specs.Told.{Told}
 use Rattle.fx_device.specs.Rules.{Meaning}
-use Rattle.fx_program.specs.declared.error.ProgramError.{ProgramError}
-use Rattle.fx_program.specs.declared.error.ProgramError.TheVariants as program
-use Rattle.fx_run_words.specs.Words.{RunGiven, ExecGiven, is_file_name, run_words, exec_words}
-use Rattle.fx_single_run.specs.Streams.{Gained}
-use Rattle.fx_single_command.specs.Words.{SingleGiven, single_words}
-use Rattle.fx_single_command.specs.Comes.{Streams, RunsProgram, Comes}
-use Rattle.fx_single_command.specs.Lines.{verdict_words, program_status}
-use Rattle.fx_single_command.specs.Reports.{Reports, DoesSingle}
-use Rattle.fx_single_command.specs.Verdicts.{status_of}
-use Rattle.fx_single_command.specs.declared.verdict.Verdict.{Verdict}
-use Rattle.fx_single_command.specs.declared.verdict.Verdict.TheVariants.{Exited, StackFull, Divide, BadThread, ThreadsFull, Undefined, Spent, DeviceFault, ReadFault, WriteFault, OutOfMemory}
-use Rattle.fx_single_command.proofs.Statuses.{reports_usage}
+use Rattle.fx_cmd_load.specs.declared.program_error.ProgramError.{ProgramError}
+use Rattle.fx_cmd_load.specs.declared.program_error.ProgramError.TheVariants as program
+use Rattle.fx_cmd_base.specs.Words.{RunGiven, ExecGiven, is_file_name, run_words, exec_words}
+use Rattle.fx_cmd_single.specs.Streams.{Gained}
+use Rattle.fx_cmd_single.specs.Words.{SingleGiven, single_words}
+use Rattle.fx_cmd_single.specs.Comes.{Streams, RunsProgram, Comes}
+use Rattle.fx_cmd_single.specs.Lines.{verdict_words, program_status}
+use Rattle.fx_cmd_single.specs.Reports.{Reports, DoesSingle}
+use Rattle.fx_cmd_single.specs.Verdicts.{status_of}
+use Rattle.fx_cmd_single.specs.declared.verdict.Verdict.{Verdict}
+use Rattle.fx_cmd_single.specs.declared.verdict.Verdict.TheVariants.{Exited, StackFull, Divide, BadThread, ThreadsFull, Undefined, Spent, DeviceFault, ReadFault, WriteFault, OutOfMemory}
+use Rattle.fx_cmd_single.proofs.Statuses.{reports_usage}
 use Rattle.flexos.specs.Words.{IsSingle, IsPlace}
 use Rattle.flexos.specs.Singles.{DoneSingle}
 use Rattle.flexos.proofs.Running.{no_status, no_two}

@@ -1,9 +1,9 @@
 -- An `exec` that ended well.
 use Rattle.std.specs.Prelude.{ℕ, List, Option}
 use Rattle.fx_device.specs.Rules.{Meaning}
-use Rattle.fx_run_words.specs.Words.{ExecGiven}
-use Rattle.fx_run_command.specs.Comes.{Streams}
-use Rattle.fx_exec_command.specs.Does.{DoneExec}
+use Rattle.fx_cmd_base.specs.Words.{ExecGiven}
+use Rattle.fx_cmd_run.specs.Comes.{Streams}
+use Rattle.fx_cmd_exec.specs.Does.{DoneExec}
 use Rattle.flexos.specs.Words.{IsExec}
 
 -- The command `exec` that ended with status 0: the image written is faithful to the source read, and the output

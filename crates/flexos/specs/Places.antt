@@ -2,10 +2,10 @@
 use Rattle.std.specs.Prelude.{ℕ, List, Option, Result}
 use Rattle.fx_base.specs.Told.{Told}
 use Rattle.fx_base.specs.Files.{Held, SameFiles}
-use Rattle.fx_placing.specs.Placing.{TookNothing}
-use Rattle.fx_place_command.specs.Comes.{Comes, PlacesProgram}
-use Rattle.fx_place_command.specs.Reports.{Reports}
-use Rattle.fx_place_command.specs.declared.failure.PlaceFailure.{PlaceFailure}
+use Rattle.fx_cmd_place.specs.Placing.{TookNothing}
+use Rattle.fx_cmd_place.specs.Comes.{Comes, PlacesProgram}
+use Rattle.fx_cmd_place.specs.Reports.{Reports}
+use Rattle.fx_cmd_place.specs.declared.failure.PlaceFailure.{PlaceFailure}
 use Rattle.flexos.specs.Words.{IsPlace}
 
 -- What `place` of a configuration came to, each answer with its cause, and the line and status of that. No file

@@ -4,10 +4,10 @@ use Rattle.fx_base.specs.Told.{Told}
 use Rattle.fx_device.specs.Rules.{Meaning}
 use Rattle.fx_image.specs.declared.forms.Image.{Image}
 use Rattle.fx_run_core.specs.Ran.{Gained}
-use Rattle.fx_verdicts.specs.Lines.{line_of}
-use Rattle.fx_verdicts.specs.declared.verdict.Verdict.TheVariants.{Exited}
-use Rattle.fx_run_words.specs.Words.{RunGiven}
-use Rattle.fx_run_command.specs.Comes.{Streams, Ran}
+use Rattle.fx_cmd_run.specs.VerdictLines.{line_of}
+use Rattle.fx_cmd_run.specs.declared.verdict.Verdict.TheVariants.{Exited}
+use Rattle.fx_cmd_base.specs.Words.{RunGiven}
+use Rattle.fx_cmd_run.specs.Comes.{Streams, Ran}
 use Rattle.flexos.specs.Words.{IsRun}
 
 -- The command `run` that ended with status 0: the run of the image read ended by Exit, and the line tells its

@@ -2,11 +2,11 @@
 use Rattle.std.specs.Prelude.{ℕ, ℤ, List, [], ◌∷◌, ◌++◌, Option}
 use Rattle.fx_base.specs.Told.{Told}
 use Rattle.fx_device.specs.Rules.{Meaning}
-use Rattle.fx_single_run.specs.Streams.{Gained}
-use Rattle.fx_single_command.specs.Words.{SingleGiven}
-use Rattle.fx_single_command.specs.Comes.{Streams, RunsProgram}
-use Rattle.fx_single_command.specs.Lines.{verdict_words}
-use Rattle.fx_single_command.specs.declared.verdict.Verdict.TheVariants.{Exited}
+use Rattle.fx_cmd_single.specs.Streams.{Gained}
+use Rattle.fx_cmd_single.specs.Words.{SingleGiven}
+use Rattle.fx_cmd_single.specs.Comes.{Streams, RunsProgram}
+use Rattle.fx_cmd_single.specs.Lines.{verdict_words}
+use Rattle.fx_cmd_single.specs.declared.verdict.Verdict.TheVariants.{Exited}
 use Rattle.flexos.specs.Words.{IsSingle}
 
 -- The command `single` that ended with status 0: the run of the program in one compartment came to an end by

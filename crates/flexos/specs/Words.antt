@@ -1,8 +1,8 @@
 -- The words of a command.
 use Rattle.std.specs.Prelude.{◌≡◌, ℕ, IsTrue, List, [], ◌∷◌, None, Some, codes}
-use Rattle.fx_run_words.specs.Words.{RunGiven, ExecGiven, is_file_name, run_words, exec_words}
-use Rattle.fx_run_words.specs.Views.{run_given, exec_given}
-use Rattle.fx_single_command.specs.Words.{SingleGiven, single_words, single_given}
+use Rattle.fx_cmd_base.specs.Words.{RunGiven, ExecGiven, is_file_name, run_words, exec_words}
+use Rattle.fx_cmd_base.specs.Views.{run_given, exec_given}
+use Rattle.fx_cmd_single.specs.Words.{SingleGiven, single_words, single_given}
 use Rattle.flexos.specs.declared.command.Command.{Command}
 use Rattle.flexos.specs.declared.command.Command.TheVariants.{Exec, Run, Place, Single}
 

@@ -3,8 +3,8 @@
 ghost use Rattle.std.specs.Prelude.{◌≡◌, map, MatchOption, string_bytes};
 ghost use Rattle.flexos.specs.Words.{IsPlace, IsNoPlace, IsUsage, IsCommand};
 
-use fx_run_words::words::{ExecWords, RunWords, is_file_name};
-use fx_single_command::words::{SingleWords, single_of};
+use fx_cmd_base::words::{ExecWords, RunWords, is_file_name};
+use fx_cmd_single::words::{SingleWords, single_of};
 
 /// The command `place CONF`: puts the placement of the program of CONF's sources.
 #[derive(Clone, Copy, Debug)]

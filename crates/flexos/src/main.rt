@@ -9,8 +9,8 @@ mod top;
 
 use adapters::{RealFiles, StdSink, StdSource};
 use fx_base::Sink;
+use fx_cmd_run::report::report_out_of_memory;
 use fx_device::{BlockStore, Counter, Device};
-use fx_run_command::report::report_out_of_memory;
 use std::alloc::AllocError;
 use std::env;
 use std::io::ErrorKind;

@@ -2,7 +2,7 @@
 
 use crate::top::flexos;
 use fx_base::{MemFiles, MemSink, MemSource};
-use fx_exec_command::inputs::EARLY_DOCUMENT;
+use fx_cmd_exec::inputs::EARLY_DOCUMENT;
 use std::alloc::{AllocError, Global};
 use std::test::Fail;
 

@@ -4,12 +4,12 @@ ghost use Rattle.std.specs.Prelude.{◌≡◌, ◌≤◌, ℕ, List, length, map
 ghost use Rattle.fx_base.specs.Told.{Told};
 ghost use Rattle.fx_base.specs.Files.{SameFiles};
 ghost use Rattle.fx_device.specs.Bus.{plugged};
-ghost use Rattle.fx_placing.specs.Placing.{TookNothing};
-ghost use Rattle.fx_run_words.specs.Words.{RunGiven, ExecGiven};
-ghost use Rattle.fx_run_command.specs.Reports.{Ended, Does};
-ghost use Rattle.fx_exec_command.specs.Does.{DoesExec};
-ghost use Rattle.fx_single_command.specs.Words.{SingleGiven};
-ghost use Rattle.fx_single_command.specs.Reports.{DoesSingle};
+ghost use Rattle.fx_cmd_place.specs.Placing.{TookNothing};
+ghost use Rattle.fx_cmd_base.specs.Words.{RunGiven, ExecGiven};
+ghost use Rattle.fx_cmd_run.specs.Reports.{Ended, Does};
+ghost use Rattle.fx_cmd_exec.specs.Does.{DoesExec};
+ghost use Rattle.fx_cmd_single.specs.Words.{SingleGiven};
+ghost use Rattle.fx_cmd_single.specs.Reports.{DoesSingle};
 ghost use Rattle.flexos.specs.Words.{IsExec, IsRun, IsPlace, IsSingle, IsUsage};
 ghost use Rattle.flexos.specs.Execs.{DoneWords};
 ghost use Rattle.flexos.specs.Runs.{DoneRun};
@@ -18,11 +18,11 @@ ghost use Rattle.flexos.specs.Singles.{DoneSingle};
 
 use crate::command::{Command, command_of};
 use fx_base::{Files, Sink, Source};
+use fx_cmd_exec::report::exec_command;
+use fx_cmd_place::place_command;
+use fx_cmd_run::report::{conclude, run_command};
+use fx_cmd_single::single_command;
 use fx_device::Device;
-use fx_exec_command::report::exec_command;
-use fx_place_command::place_command;
-use fx_run_command::report::{conclude, run_command};
-use fx_single_command::single_command;
 use std::alloc::Global;
 
 /// The line of words that are no command.

@@ -1,17 +1,17 @@
 -- What is known of a stack stays known where a step that waited for a device gives its value.
 use Rattle.std.proofs.Common.{◌≡◌, ℕ, List, Option, Some, None, subst}
 use Rattle.fx_outcomes.specs.Runs.{Goes, Stops}
-use Rattle.fx_c_blocks.specs.declared.value.Value.{Value}
+use Rattle.fx_c_mean_blocks.specs.declared.value.Value.{Value}
 use Rattle.fx_c_mean_model.specs.declared.rights.Rights.{Rights}
 use Rattle.fx_c_mean_model.specs.Programs.{Program}
 use Rattle.fx_c_mean_model.specs.States.{Frame, Does, Ask, Tell}
 use Rattle.fx_c_mean_model.specs.Steps.{State, Outcome, gives, use_of}
-use Rattle.fx_c_acts.specs.declared.state.Moved.{Moved}
-use Rattle.fx_c_acts.specs.declared.state.Moved.TheVariants as moved
-use Rattle.fx_c_acts.specs.declared.uses.StackUse.{StackUse}
-use Rattle.fx_c_acts.specs.Cores.{Comes}
-use Rattle.fx_c_acts.specs.Uses.{HasUse, IsKnownAt}
-use Rattle.fx_c_acts.proofs.Steady.{given}
+use Rattle.fx_c_mean_acts.specs.declared.state.Moved.{Moved}
+use Rattle.fx_c_mean_acts.specs.declared.state.Moved.TheVariants as moved
+use Rattle.fx_c_mean_acts.specs.declared.uses.StackUse.{StackUse}
+use Rattle.fx_c_mean_acts.specs.Cores.{Comes}
+use Rattle.fx_c_mean_acts.specs.Uses.{HasUse, IsKnownAt}
+use Rattle.fx_c_mean_acts.proofs.Steady.{given}
 
 abbrev After : Program → Rights → ℕ → ℕ → Outcome → Type 0
 After p r k n (Goes made after) = HasUse p r k n after.spot

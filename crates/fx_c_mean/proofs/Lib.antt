@@ -2,3 +2,4 @@ pub mod Starts
 pub mod Waiting
 pub mod Inputs
 pub mod Known
+pub mod Merged

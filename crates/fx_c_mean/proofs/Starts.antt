@@ -3,11 +3,11 @@ use Rattle.std.proofs.Common.{◌≡◌, ℕ, zero, suc, ◌+◌, ◌-◌, ◌/�
 use Rattle.std.proofs.lemmas.List.{take_more, drop_more, length-append, length-map, length-replicate}
 use Rattle.std.specs.Prelude.{replicate, slice_index}
 use Rattle.fx_c_ast.specs.declared.checked.TGlobal.{TGlobal}
-use Rattle.fx_c_blocks.specs.declared.block.Object.{Object}
-use Rattle.fx_c_blocks.specs.declared.block.Place.TheVariants.{Global, Literal}
-use Rattle.fx_c_blocks.specs.declared.value.Cell.{Cell}
-use Rattle.fx_c_blocks.specs.declared.value.Cell.TheVariants.{Byte}
-use Rattle.fx_c_blocks.specs.Blocks.{bytes_of}
+use Rattle.fx_c_mean_blocks.specs.declared.block.Object.{Object}
+use Rattle.fx_c_mean_blocks.specs.declared.block.Place.TheVariants.{Global, Literal}
+use Rattle.fx_c_mean_blocks.specs.declared.value.Cell.{Cell}
+use Rattle.fx_c_mean_blocks.specs.declared.value.Cell.TheVariants.{Byte}
+use Rattle.fx_c_mean_blocks.specs.Blocks.{bytes_of}
 use Rattle.fx_c_mean_model.specs.Programs.{Program, GlobalVariable, global_of, byte_cells, zeros, live_object, size_in, first_cells, global_objects, literal_objects}
 
 zero_past : (n i : ℕ) → get_or (replicate n (Byte 0)) i (Byte 0) ≡ Byte 0

@@ -6,16 +6,16 @@ use Rattle.fx_device.specs.Rules.{Request, load, store}
 use Rattle.fx_device.specs.Bus.{BusState, Carries}
 use Rattle.fx_device.specs.declared.bus_error.BusError.{BusError}
 use Rattle.fx_device.specs.declared.bus_error.BusError.TheVariants.{Device, OutOfMemory}
-use Rattle.fx_c_blocks.specs.declared.value.Value.TheVariants.{Number}
+use Rattle.fx_c_mean_blocks.specs.declared.value.Value.TheVariants.{Number}
 use Rattle.fx_c_mean_model.specs.declared.end.End.{End}
 use Rattle.fx_c_mean_model.specs.declared.end.End.TheVariants as end
 use Rattle.fx_c_mean_model.specs.declared.rights.Rights.{Rights}
 use Rattle.fx_c_mean_model.specs.Programs.{Program, program_of}
 use Rattle.fx_c_mean_model.specs.States.{Frame, Spot, Does, Ask, Tell}
 use Rattle.fx_c_mean_model.specs.Steps.{State, step, extra, first_state}
-use Rattle.fx_c_acts.specs.Cores.{state_of}
-use Rattle.fx_c_acts.specs.declared.state.Core.{Core}
-use Rattle.fx_c_acts.specs.declared.source.Source.{Source}
+use Rattle.fx_c_mean_acts.specs.Cores.{state_of}
+use Rattle.fx_c_mean_acts.specs.declared.state.Core.{Core}
+use Rattle.fx_c_mean_acts.specs.declared.source.Source.{Source}
 use Rattle.fx_c_mean.specs.declared.runner.Walk.{Walk}
 use Rattle.fx_c_mean.specs.declared.runner.Walk.TheVariants as walk
 

@@ -4,6 +4,8 @@
 //! the bus, and those of the console's register 0 to the caller.
 #![tactic(auto)]
 
+pub mod laws;
+pub mod rights;
 pub mod runner;
 mod start;
 

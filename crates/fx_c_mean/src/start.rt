@@ -4,19 +4,19 @@ ghost use Rattle.std.specs.Prelude.{◌≡◌, ◌+◌, ◌-◌, ◌++◌, ◌�
 ghost use Rattle.fx_c_ast.specs.CheckedTrees.{ty_tree};
 ghost use Rattle.fx_c_mean_model.specs.Programs.{program_of, first_cells, first_memory, byte_cells, zeros, size_in, live_object, global_objects, literal_objects};
 ghost use Rattle.fx_c_mean_model.specs.Steps.{first_state};
-ghost use Rattle.fx_c_blocks.specs.Blocks.{bytes_of};
-ghost use Rattle.fx_c_blocks.specs.declared.block.Place.TheVariants.{Global as GlobalPlace, Literal as LiteralPlace};
-ghost use Rattle.fx_c_acts.specs.Cores.{state_of};
+ghost use Rattle.fx_c_mean_blocks.specs.Blocks.{bytes_of};
+ghost use Rattle.fx_c_mean_blocks.specs.declared.block.Place.TheVariants.{Global as GlobalPlace, Literal as LiteralPlace};
+ghost use Rattle.fx_c_mean_acts.specs.Cores.{state_of};
 
-use fx_c_acts::source::Source;
-use fx_c_acts::state::{Core, Thread};
 use fx_c_ast::checked::TGlobal;
 use fx_c_ast::parsed::{Bytes, Init};
-use fx_c_blocks::block::{Cells, Object, Place};
-use fx_c_blocks::memory::Memory;
-use fx_c_blocks::value::{Cell, Value};
-use fx_c_control::frames::{ARGUMENTS, Act, Call, Now, Values, Way};
-use fx_c_control::stack::Stack;
+use fx_c_mean_acts::source::Source;
+use fx_c_mean_acts::state::{Core, Thread};
+use fx_c_mean_blocks::block::{Cells, Object, Place};
+use fx_c_mean_blocks::memory::Memory;
+use fx_c_mean_blocks::value::{Cell, Value};
+use fx_c_mean_control::frames::{ARGUMENTS, Act, Call, Now, Values, Way};
+use fx_c_mean_control::stack::Stack;
 use std::alloc::{AllocError, Global};
 
 /// The byte at a place, or 0 past the end.

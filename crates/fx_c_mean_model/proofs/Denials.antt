@@ -1,9 +1,9 @@
 -- Steps make one operation, and none is denied where everything is granted.
 use Rattle.std.proofs.Common.{◌≡◌, ℕ, Bool, true, false, not, ◌||◌, nat_eq, [], if◌then◌else◌, refl, ap, ◌∙◌, arith, Ok}
 use Rattle.fx_outcomes.specs.Runs.{Stops}
-use Rattle.fx_c_blocks.specs.declared.block.Place.{Place}
-use Rattle.fx_c_blocks.specs.declared.block.Place.TheVariants.{Global, Literal, Local}
-use Rattle.fx_c_blocks.specs.Blocks.{unless_literal}
+use Rattle.fx_c_mean_blocks.specs.declared.block.Place.{Place}
+use Rattle.fx_c_mean_blocks.specs.declared.block.Place.TheVariants.{Global, Literal, Local}
+use Rattle.fx_c_mean_blocks.specs.Blocks.{unless_literal}
 use Rattle.fx_c_mean_model.specs.declared.end.End.{End}
 use Rattle.fx_c_mean_model.specs.declared.rights.Rights.{Rights}
 use Rattle.fx_c_mean_model.specs.Programs.{Program}

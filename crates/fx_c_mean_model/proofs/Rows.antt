@@ -6,7 +6,7 @@ use Rattle.fx_c_ast.specs.declared.operator.Unop.TheVariants.{Neg, Deref, Addr}
 use Rattle.fx_c_ast.specs.declared.operator.Binop.TheVariants.{Add, Sub, Div, Shl, Lt, Eq}
 use Rattle.fx_c_ast.specs.declared.parsed.Init.TheVariants as init
 use Rattle.fx_c_ast.specs.CheckedTrees.{VoidTy, IntTy, PtrTy, TExprTree, ELocal, EGlobal, EUn, EBin, EConvert, ECall, EGate, EPutc, EDevLoad, EDevStore, ESpawn, ESwitch, SEval, SAssign, SLocal, SIf, SFor, NoTStmt, OneTStmt}
-use Rattle.fx_c_blocks.specs.declared.block.Place.TheVariants.{Global, Local}
+use Rattle.fx_c_mean_blocks.specs.declared.block.Place.TheVariants.{Global, Local}
 use Rattle.fx_c_mean_model.specs.declared.end.End.TheVariants.{Exit, Denied, StackFull, Divide, BadThread, ThreadsFull}
 use Rattle.fx_c_mean_model.specs.declared.rights.Rights.{Rights}
 use Rattle.fx_c_mean_model.specs.Programs.{Program, Function}

@@ -1,14 +1,14 @@
 -- What steps do to memory.
 use Rattle.std.proofs.Common.{◌≡◌, ℕ, ◌+◌, Bool, true, false, nat_eq, nat_lt, List, [], ◌∷◌, ◌++◌, length, slice_get, Option, Some, None, Result, Ok, Err, if◌then◌else◌, refl}
 use Rattle.fx_outcomes.specs.Runs.{Goes, Stops}
-use Rattle.fx_c_blocks.specs.declared.value.Value.{Value}
-use Rattle.fx_c_blocks.specs.declared.value.Value.TheVariants.{Void, Number}
-use Rattle.fx_c_blocks.specs.declared.value.Cell.{Cell}
-use Rattle.fx_c_blocks.specs.declared.block.Place.{Place}
-use Rattle.fx_c_blocks.specs.declared.fault.Fault.{Fault}
-use Rattle.fx_c_blocks.specs.declared.block.Object.{Object}
-use Rattle.fx_c_blocks.specs.Blocks.{width, byte_read, loaded, writable, offset_in, cells_of, written, moved}
-use Rattle.fx_c_blocks.specs.Operators.{unary_result, conversion, binary_result}
+use Rattle.fx_c_mean_blocks.specs.declared.value.Value.{Value}
+use Rattle.fx_c_mean_blocks.specs.declared.value.Value.TheVariants.{Void, Number}
+use Rattle.fx_c_mean_blocks.specs.declared.value.Cell.{Cell}
+use Rattle.fx_c_mean_blocks.specs.declared.block.Place.{Place}
+use Rattle.fx_c_mean_blocks.specs.declared.fault.Fault.{Fault}
+use Rattle.fx_c_mean_blocks.specs.declared.block.Object.{Object}
+use Rattle.fx_c_mean_blocks.specs.Blocks.{width, byte_read, loaded, writable, offset_in, cells_of, written, moved}
+use Rattle.fx_c_mean_blocks.specs.Operators.{unary_result, conversion, binary_result}
 use Rattle.fx_c_mean_model.specs.declared.end.End.TheVariants.{Denied, ThreadsFull}
 use Rattle.fx_c_mean_model.specs.Rights.{may}
 use Rattle.fx_c_mean_model.specs.declared.rights.Rights.{Rights}

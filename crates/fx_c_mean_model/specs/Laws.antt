@@ -3,10 +3,10 @@ use Rattle.std.specs.Prelude.{◌≡◌, ℕ, ◌≤◌, Bool, true, false, List
 use Rattle.fx_outcomes.specs.Runs.{Next, Goes, Stops}
 use Rattle.fx_outcomes.specs.Runs as runs
 use Rattle.fx_outcomes.specs.Keeping.{IsPrefix}
-use Rattle.fx_c_blocks.specs.declared.value.Value.{Value}
-use Rattle.fx_c_blocks.specs.declared.value.Cell.{Cell}
-use Rattle.fx_c_blocks.specs.declared.block.Object.{Object}
-use Rattle.fx_c_blocks.specs.Blocks.{width, written}
+use Rattle.fx_c_mean_blocks.specs.declared.value.Value.{Value}
+use Rattle.fx_c_mean_blocks.specs.declared.value.Cell.{Cell}
+use Rattle.fx_c_mean_blocks.specs.declared.block.Object.{Object}
+use Rattle.fx_c_mean_blocks.specs.Blocks.{width, written}
 use Rattle.fx_c_mean_model.specs.declared.end.End.{End}
 use Rattle.fx_c_mean_model.specs.declared.end.End.TheVariants.{Denied}
 use Rattle.fx_c_mean_model.specs.declared.rights.Rights.{Rights}

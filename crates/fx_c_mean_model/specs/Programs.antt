@@ -9,13 +9,13 @@ use Rattle.fx_c_ast.specs.declared.checked.TProgram.{TProgram}
 use Rattle.fx_c_ast.specs.CheckedTrees.{TyTree, VoidTy, TStmtTrees, NoTStmts, ty_tree, tstmt_trees, struct_types}
 use Rattle.fx_c_ast.specs.Layout.{known_layouts, layout_of, members_end, round_up}
 use Rattle.fx_c_ast.specs.StackUse.{fs}
-use Rattle.fx_c_blocks.specs.declared.value.Cell.{Cell}
-use Rattle.fx_c_blocks.specs.declared.value.Cell.TheVariants.{Byte}
-use Rattle.fx_c_blocks.specs.declared.value.Value.{Value}
-use Rattle.fx_c_blocks.specs.declared.block.Place.{Place}
-use Rattle.fx_c_blocks.specs.declared.block.Place.TheVariants.{Global, Literal, Local}
-use Rattle.fx_c_blocks.specs.declared.block.Object.{Object}
-use Rattle.fx_c_blocks.specs.Blocks.{bytes_of, cells_of}
+use Rattle.fx_c_mean_blocks.specs.declared.value.Cell.{Cell}
+use Rattle.fx_c_mean_blocks.specs.declared.value.Cell.TheVariants.{Byte}
+use Rattle.fx_c_mean_blocks.specs.declared.value.Value.{Value}
+use Rattle.fx_c_mean_blocks.specs.declared.block.Place.{Place}
+use Rattle.fx_c_mean_blocks.specs.declared.block.Place.TheVariants.{Global, Literal, Local}
+use Rattle.fx_c_mean_blocks.specs.declared.block.Object.{Object}
+use Rattle.fx_c_mean_blocks.specs.Blocks.{bytes_of, cells_of}
 
 pub record Variable : Type 0 where
   pub shared : Bool

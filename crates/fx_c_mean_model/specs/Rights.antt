@@ -1,8 +1,8 @@
 -- The rights of a configuration as plain data, and what they say of accesses, stacks and gates. The whole
 -- file is this project's own.
 use Rattle.std.specs.Prelude.{ℕ, ◌*◌, ◌/◌, ◌%◌, ◌^◌, Bool, false, not, ◌||◌, nat_eq, slice_index, slice_index_or, if◌then◌else◌}
-use Rattle.fx_c_blocks.specs.declared.block.Place.{Place}
-use Rattle.fx_c_blocks.specs.declared.block.Place.TheVariants.{Global, Literal, Local}
+use Rattle.fx_c_mean_blocks.specs.declared.block.Place.{Place}
+use Rattle.fx_c_mean_blocks.specs.declared.block.Place.TheVariants.{Global, Literal, Local}
 use Rattle.fx_c_ast.specs.CheckedTrees.{VoidTy}
 use Rattle.fx_c_mean_model.specs.Programs.{Variable, Program, function_at}
 use Rattle.fx_c_mean_model.specs.declared.rights.Rights.{Rights}

@@ -12,10 +12,10 @@ use Rattle.fx_c_ast.specs.declared.operator.Binop.{Binop}
 use Rattle.fx_c_ast.specs.declared.operator.Binop.TheVariants.{Add, Land, Lor}
 use Rattle.fx_c_ast.specs.CheckedTrees.{TyTree, VoidTy, IntTy, StructTy, PtrTy, ArrayTy, TExprTree, ENumber, ELiteral, EGlobal, ELocal, EUn, EBin, ECast, EConvert, ESize, EIndex, EMember, EArrow, ECall, EGate, EGetc, EPutc, EDevLoad, EDevStore, ESpawn, ESwitch, EMe, TExprTrees, NoTExprs, MoreTExprs, TStmtTree, SEmpty, SBlock, SLocal, SEval, SAssign, SIf, SWhile, SFor, SBreak, SContinue, SReturn, TStmtTrees, NoTStmts, MoreTStmts, MaybeTStmt, NoTStmt, OneTStmt}
 use Rattle.fx_word_ops.specs.Words.{bit_count}
-use Rattle.fx_c_blocks.specs.Integers.{width_of, is_signed}
-use Rattle.fx_c_blocks.specs.declared.value.Value.{Value}
-use Rattle.fx_c_blocks.specs.declared.value.Value.TheVariants.{Number}
-use Rattle.fx_c_blocks.specs.declared.value.Cell.{Cell}
+use Rattle.fx_c_mean_blocks.specs.Integers.{width_of, is_signed}
+use Rattle.fx_c_mean_blocks.specs.declared.value.Value.{Value}
+use Rattle.fx_c_mean_blocks.specs.declared.value.Value.TheVariants.{Number}
+use Rattle.fx_c_mean_blocks.specs.declared.value.Cell.{Cell}
 
 pub data Loop : Type 0 where
   While : (test : TExprTree) (s : TStmtTree) → Loop

@@ -6,18 +6,18 @@ use Rattle.fx_c_ast.specs.declared.operator.IntType.TheVariants.{Long}
 use Rattle.fx_c_ast.specs.declared.operator.Binop.{Binop}
 use Rattle.fx_c_ast.specs.declared.operator.Binop.TheVariants.{Land, Lor}
 use Rattle.fx_c_ast.specs.CheckedTrees.{TyTree, IntTy, StructTy, PtrTy, TExprTree, TStmtTree, MaybeTStmt}
-use Rattle.fx_c_blocks.specs.declared.value.Value.{Value}
-use Rattle.fx_c_blocks.specs.declared.value.Value.TheVariants.{Void, Number, Null, Address}
-use Rattle.fx_c_blocks.specs.declared.value.Cell.{Cell}
-use Rattle.fx_c_blocks.specs.declared.block.Place.{Place}
-use Rattle.fx_c_blocks.specs.declared.fault.Fault.{Fault}
-use Rattle.fx_c_blocks.specs.declared.fault.Fault.TheVariants as fault
+use Rattle.fx_c_mean_blocks.specs.declared.value.Value.{Value}
+use Rattle.fx_c_mean_blocks.specs.declared.value.Value.TheVariants.{Void, Number, Null, Address}
+use Rattle.fx_c_mean_blocks.specs.declared.value.Cell.{Cell}
+use Rattle.fx_c_mean_blocks.specs.declared.block.Place.{Place}
+use Rattle.fx_c_mean_blocks.specs.declared.fault.Fault.{Fault}
+use Rattle.fx_c_mean_blocks.specs.declared.fault.Fault.TheVariants as fault
 use Rattle.fx_c_mean_model.specs.declared.end.End.{End}
 use Rattle.fx_c_mean_model.specs.declared.end.End.TheVariants.{Exit, Denied, StackFull, Divide, BadThread, ThreadsFull, Undefined}
-use Rattle.fx_c_blocks.specs.Integers.{number, converted}
-use Rattle.fx_c_blocks.specs.declared.block.Object.{Object}
-use Rattle.fx_c_blocks.specs.Blocks.{cells_of, width, offset_in, byte_read, loaded, writable, written, without, moved}
-use Rattle.fx_c_blocks.specs.Operators.{unary_result, conversion, binary_result}
+use Rattle.fx_c_mean_blocks.specs.Integers.{number, converted}
+use Rattle.fx_c_mean_blocks.specs.declared.block.Object.{Object}
+use Rattle.fx_c_mean_blocks.specs.Blocks.{cells_of, width, offset_in, byte_read, loaded, writable, written, without, moved}
+use Rattle.fx_c_mean_blocks.specs.Operators.{unary_result, conversion, binary_result}
 use Rattle.fx_c_mean_model.specs.declared.rights.Rights.{Rights}
 use Rattle.fx_c_mean_model.specs.Programs.{Program, function_at, size_in, offset_of, first_memory, call_objects}
 use Rattle.fx_c_mean_model.specs.Rights.{home, may, stack_of, stack_size}

@@ -1,6 +1,6 @@
 //! How a run ends.
 
-use fx_c_blocks::block::Place;
+use fx_c_mean_blocks::block::Place;
 
 /// The end of a run.
 #[derive(Clone, Copy, Debug, PartialEq, Eq)]

@@ -4,7 +4,7 @@ use Rattle.fx_c_ast.specs.declared.checked.TLocal.{TLocal}
 use Rattle.fx_c_ast.specs.declared.checked.TFunction.{TFunction}
 use Rattle.fx_c_ast.specs.ParsedTrees.{decl_tree}
 use Rattle.fx_c_ast.specs.CheckedTrees.{TyTree, ty_tree}
-use Rattle.fx_c_typing.specs.Locals.{LocalTree, local_trees}
+use Rattle.fx_c_types_rules.specs.Locals.{LocalTree, local_trees}
 use Rattle.fx_c_types.specs.declared.program.Placed.{Placed}
 use Rattle.fx_c_types.specs.Programs.{has_none}
 use Rattle.fx_c_types.specs.ProgramView.{placed_trees, function_tree, function_trees}

@@ -2,15 +2,15 @@
 use Rattle.std.proofs.Common.{◌≡◌, ℕ, ◌<◌, ◌≤◌, Bool, sym, ap, ◌∙◌, List, [], length, get_or, slice_get, Some, Result, Ok, Err}
 use Rattle.std.specs.Prelude.{codes}
 use Rattle.fx_c_ast.specs.ParsedTrees.{ParamTree, StmtTrees}
-use Rattle.fx_c_names.specs.Names.{found}
-use Rattle.fx_c_typing.specs.declared.fault.Fault.TheVariants.{Rule}
-use Rattle.fx_c_typing.specs.declared.fault.TypeKind.TheVariants.{NoMain}
-use Rattle.fx_c_typing.specs.Checks.{demand}
-use Rattle.fx_c_heads.specs.declared.heads.Head.{Head}
-use Rattle.fx_c_heads.specs.declared.heads.Heads.{Heads}
-use Rattle.fx_c_heads.specs.Heads.{HeadsTree, no_heads}
-use Rattle.fx_c_heads.specs.HeadsView.{heads_tree, function_head, function_heads}
-use Rattle.fx_c_bodies.proofs.Items.{function_at, function_beyond}
+use Rattle.fx_c_types_heads.specs.Names.{found}
+use Rattle.fx_c_types_rules.specs.declared.fault.Fault.TheVariants.{Rule}
+use Rattle.fx_c_types_rules.specs.declared.fault.TypeKind.TheVariants.{NoMain}
+use Rattle.fx_c_types_rules.specs.Checks.{demand}
+use Rattle.fx_c_types_heads.specs.declared.heads.Head.{Head}
+use Rattle.fx_c_types_heads.specs.declared.heads.Heads.{Heads}
+use Rattle.fx_c_types_heads.specs.Heads.{HeadsTree, no_heads}
+use Rattle.fx_c_types_heads.specs.HeadsView.{heads_tree, function_head, function_heads}
+use Rattle.fx_c_types_bodies.proofs.Items.{function_at, function_beyond}
 use Rattle.fx_c_types.specs.declared.fault.TypeError.{TypeError}
 use Rattle.fx_c_types.specs.declared.program.Bodies.{Bodies}
 use Rattle.fx_c_types.specs.Programs.{PlacedDecl, BodiesTree, ProgramTree, at_declaration, ◌>>>◌, tags_of, heads_of, function_body, next_body, no_bodies, bodies_of, is_start, main_at, main_of, main_number, program_of, well_typed}

@@ -3,10 +3,10 @@ use Rattle.std.proofs.Common.{◌≡◌, ℕ, ◌+◌, ◌<◌, ◌≤◌, refl,
 use Rattle.std.proofs.lemmas.List.{append-nil, drop_all}
 use Rattle.fx_c_ast.specs.declared.parsed.Decl.{Decl}
 use Rattle.fx_c_ast.specs.ParsedTrees.{decl_tree}
-use Rattle.fx_c_typing.specs.declared.fault.Fault.{Fault}
-use Rattle.fx_c_typing.specs.declared.fault.Fault.TheVariants as fault
-use Rattle.fx_c_typing.specs.Checks.{Checked, Gives}
-use Rattle.fx_c_heads.specs.Heads.{HeadsTree, head}
+use Rattle.fx_c_types_rules.specs.declared.fault.Fault.{Fault}
+use Rattle.fx_c_types_rules.specs.declared.fault.Fault.TheVariants as fault
+use Rattle.fx_c_types_rules.specs.Checks.{Checked, Gives}
+use Rattle.fx_c_types_heads.specs.Heads.{HeadsTree, head}
 use Rattle.fx_c_types.specs.declared.fault.TypeError.{TypeError}
 use Rattle.fx_c_types.specs.declared.program.SourceFile.{SourceFile}
 use Rattle.fx_c_types.specs.declared.program.Placed.{Placed}

@@ -5,9 +5,9 @@ use Rattle.fx_c_ast.specs.declared.checked.TFunction.{TFunction}
 use Rattle.fx_c_ast.specs.declared.checked.TProgram.{TProgram}
 use Rattle.fx_c_ast.specs.ParsedTrees.{decl_tree}
 use Rattle.fx_c_ast.specs.CheckedTrees.{ty_tree, tstmt_trees}
-use Rattle.fx_c_typing.specs.Structs.{struct_trees}
-use Rattle.fx_c_typing.specs.Locals.{local_trees}
-use Rattle.fx_c_heads.specs.HeadsView.{global_heads}
+use Rattle.fx_c_types_rules.specs.Structs.{struct_trees}
+use Rattle.fx_c_types_rules.specs.Locals.{local_trees}
+use Rattle.fx_c_types_heads.specs.HeadsView.{global_heads}
 use Rattle.fx_c_types.specs.declared.program.SourceFile.{SourceFile}
 use Rattle.fx_c_types.specs.declared.program.Placed.{Placed}
 use Rattle.fx_c_types.specs.declared.program.Bodies.{Bodies}

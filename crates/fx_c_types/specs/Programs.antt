@@ -3,21 +3,21 @@ use Rattle.std.specs.Prelude.{ℕ, Bool, true, false, ◌+◌, ◌&&◌, nat_le,
 use Rattle.fx_c_ast.specs.ParsedTrees.{ParamTree, DeclTree, StructTree, GlobalTree, StmtTrees}
 use Rattle.fx_c_ast.specs.ParsedTrees as parsed
 use Rattle.fx_c_ast.specs.CheckedTrees.{TyTree, TStmtTrees, NoTStmts}
-use Rattle.fx_c_names.specs.Names.{found}
-use Rattle.fx_c_typing.specs.declared.fault.TypeKind.TheVariants.{FrameTooLong, NoMain}
-use Rattle.fx_c_typing.specs.declared.fault.Fault.TheVariants as fault
-use Rattle.fx_c_typing.specs.Checks.{Checked, ◌>>=◌, refuse, demand}
-use Rattle.fx_c_typing.specs.declared.category.Category.{Category}
-use Rattle.fx_c_typing.specs.declared.category.Category.TheVariants.{Nothing, Integer}
-use Rattle.fx_c_typing.specs.Types.{category}
-use Rattle.fx_c_typing.specs.Structs as plain
-use Rattle.fx_c_typing.specs.Structs.{place_32}
-use Rattle.fx_c_typing.specs.Locals.{LocalTree}
-use Rattle.fx_c_frames.specs.Frames.{frame_size}
-use Rattle.fx_c_heads.specs.Heads.{HeadsTree, GlobalHead, FunctionHead, no_heads, head}
+use Rattle.fx_c_types_heads.specs.Names.{found}
+use Rattle.fx_c_types_rules.specs.declared.fault.TypeKind.TheVariants.{FrameTooLong, NoMain}
+use Rattle.fx_c_types_rules.specs.declared.fault.Fault.TheVariants as fault
+use Rattle.fx_c_types_rules.specs.Checks.{Checked, ◌>>=◌, refuse, demand}
+use Rattle.fx_c_types_rules.specs.declared.category.Category.{Category}
+use Rattle.fx_c_types_rules.specs.declared.category.Category.TheVariants.{Nothing, Integer}
+use Rattle.fx_c_types_rules.specs.Types.{category}
+use Rattle.fx_c_types_rules.specs.Structs as plain
+use Rattle.fx_c_types_rules.specs.Structs.{place_32}
+use Rattle.fx_c_types_rules.specs.Locals.{LocalTree}
+use Rattle.fx_c_types.specs.Frames.{frame_size}
+use Rattle.fx_c_types_heads.specs.Heads.{HeadsTree, GlobalHead, FunctionHead, no_heads, head}
 use Rattle.fx_c_types.specs.declared.fault.TypeError.{TypeError}
 use Rattle.fx_c_types.specs.declared.fault.TypeError.TheVariants.{Rule, OutOfMemory}
-use Rattle.fx_c_bodies.specs.Bodies.{ScopeTree, BodyTree, checked_all, place_16}
+use Rattle.fx_c_types_bodies.specs.Bodies.{ScopeTree, BodyTree, checked_all, place_16}
 
 -- a declaration with the number of its library
 pub record PlacedDecl : Type 0 where

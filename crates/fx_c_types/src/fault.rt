@@ -3,7 +3,7 @@
 ghost use Rattle.std.specs.Prelude.{◌≡◌};
 ghost use Rattle.fx_c_types.specs.declared.fault.TypeError.TheVariants.{OutOfMemory};
 
-use fx_c_typing::fault::TypeKind;
+use fx_c_types_rules::fault::TypeKind;
 use std::alloc::AllocError;
 
 /// A violated rule with the number of the declaration, over all files from 0, or want of memory.

@@ -2,6 +2,8 @@
 #![tactic(auto)]
 
 pub mod fault;
+pub mod frame;
+pub mod need;
 pub mod program;
 
 pub use fault::TypeError;

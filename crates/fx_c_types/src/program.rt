@@ -2,31 +2,31 @@
 
 ghost use Rattle.std.specs.Prelude.{◌≡◌, ◌<◌, ◌^◌, [], ◌∷◌, ◌++◌, length, IfOk, OnOk, Ok, Some};
 ghost use Rattle.fx_c_ast.specs.ParsedTrees.{param_trees, stmt_trees, decl_tree};
-ghost use Rattle.fx_c_typing.specs.Checks.{Gives};
-ghost use Rattle.fx_c_heads.specs.HeadsView.{heads_tree, function_head as head_tree};
-ghost use Rattle.fx_c_bodies.specs.Views.{body_tree};
+ghost use Rattle.fx_c_types_rules.specs.Checks.{Gives};
+ghost use Rattle.fx_c_types_heads.specs.HeadsView.{heads_tree, function_head as head_tree};
+ghost use Rattle.fx_c_types_bodies.specs.Views.{body_tree};
 ghost use Rattle.fx_c_types.specs.Programs.{at_declaration, with_name, with_tag, tags_of, heads_of, param_block, body_from, function_of, finished, function_body, next_body, body_of, no_bodies, bodies_of, is_start, main_number, program_of, well_typed};
 ghost use Rattle.fx_c_types.specs.Answers.{Answers};
 ghost use Rattle.fx_c_types.specs.ProgramView.{declarations, placed_trees, function_tree, function_trees, bodies_tree, program_tree};
-ghost use Rattle.fx_c_typing.specs.Locals.{local_trees};
+ghost use Rattle.fx_c_types_rules.specs.Locals.{local_trees};
 ghost use Rattle.fx_c_ast.specs.CheckedTrees.{tstmt_trees};
-ghost use Rattle.fx_c_heads.specs.Heads.{no_heads, head};
+ghost use Rattle.fx_c_types_heads.specs.Heads.{no_heads, head};
 
 use crate::fault::TypeError;
+use crate::frame::fits;
 use fx_c_ast::checked::{TFunction, TLocal, TProgram, TStmt};
 use fx_c_ast::parsed::{Bytes, Decl, Param, Stmt, Unit};
 use fx_c_ast::sequence::Sequence;
-use fx_c_bodies::nodes::place_16;
-use fx_c_bodies::scope::{Body, Scope};
-use fx_c_bodies::statements::statements;
-use fx_c_declare::declare::add;
-use fx_c_frames::frame::fits;
-use fx_c_heads::copies::bytes;
-use fx_c_heads::heads::{Head, Heads, place_32};
-use fx_c_names::names::Names;
-use fx_c_typing::category::Category;
-use fx_c_typing::fault::{Fault, TypeKind};
-use fx_c_typing::types::{category, copied};
+use fx_c_types_bodies::nodes::place_16;
+use fx_c_types_bodies::scope::{Body, Scope};
+use fx_c_types_bodies::statements::statements;
+use fx_c_types_heads::copies::bytes;
+use fx_c_types_heads::declare::add;
+use fx_c_types_heads::heads::{Head, Heads, place_32};
+use fx_c_types_heads::names::Names;
+use fx_c_types_rules::category::Category;
+use fx_c_types_rules::fault::{Fault, TypeKind};
+use fx_c_types_rules::types::{category, copied};
 use std::alloc::{AllocError, Global};
 use std::mem;
 

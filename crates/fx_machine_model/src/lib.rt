@@ -14,4 +14,5 @@
 pub mod boot;
 pub mod fetched;
 pub mod layout;
+pub mod outcome;
 pub mod stop;

@@ -16,8 +16,8 @@ use Rattle.fx_machine.specs.Turns.{Running, next_of, made_of, Asks, AsksInput, c
 use Rattle.fx_run_core.specs.Ran.{named, AllOnes, console_others, plug_of, Part, IsPlugged, stop_of, NextAsks, RunsTo}
 use Rattle.fx_run_core.specs.Reached.{Reached, Served, ServedOrDue, Devices, DevicesDue}
 use Rattle.fx_run_core.specs.Stepping.{Reaches}
-use Rattle.fx_run_outcomes.specs.declared.outcome.Outcome as outcomes
-use Rattle.fx_run_outcomes.specs.declared.outcome.Outcome.TheVariants.{Stopped, Spent}
+use Rattle.fx_machine_model.specs.declared.outcome.Outcome as outcomes
+use Rattle.fx_machine_model.specs.declared.outcome.Outcome.TheVariants.{Stopped, Spent}
 use Rattle.fx_run_core.proofs.Reaching.{run_ends, turns_end, fed_ends, next_is, run_stops, turns_stop, fed_stops}
 use Rattle.fx_run_core.proofs.Serving.{requested, devices_carried, devices_same, devices_noted, led_whole}
 

@@ -8,8 +8,8 @@ use Rattle.fx_device.specs.Rules.{Meaning}
 use Rattle.fx_device.specs.Bus.{BusState, box_of, none}
 use Rattle.fx_image.specs.declared.forms.Image.{Image}
 use Rattle.fx_machine.specs.Turns.{Running, booted, state_of, request_of, made_of}
-use Rattle.fx_run_outcomes.specs.declared.outcome.Outcome as outcomes
-use Rattle.fx_run_outcomes.specs.declared.outcome.Outcome.TheVariants.{Stopped, Spent, Device, ReadFault, WriteFault, OutOfMemory}
+use Rattle.fx_machine_model.specs.declared.outcome.Outcome as outcomes
+use Rattle.fx_machine_model.specs.declared.outcome.Outcome.TheVariants.{Stopped, Spent, Device, ReadFault, WriteFault, OutOfMemory}
 use Rattle.fx_run_core.specs.Ran.{named, outputs, inputs, Reads, Gained, GainedButLast, plug_of, Part, RunsTo, HasCause, Output, Input, counted}
 use Rattle.fx_run_core.specs.Reached.{Reached, Devices, Watching, Watched, Rebox}
 use Rattle.fx_run_core.specs.Stepping.{Same, LostOne, WentOn, EndsBy}

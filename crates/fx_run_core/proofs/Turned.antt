@@ -8,7 +8,7 @@ use Rattle.fx_base.specs.Told.{Told}
 use Rattle.fx_machine_model.specs.declared.stop.Stop.{Stop}
 use Rattle.fx_machine_model.specs.declared.stop.Turn.TheVariants as turns
 use Rattle.fx_machine.specs.Turns.{Running, Turned, Waits, Gave, console_load}
-use Rattle.fx_run_outcomes.specs.declared.outcome.Outcome.TheVariants.{Stopped, Device, ReadFault, WriteFault, OutOfMemory}
+use Rattle.fx_machine_model.specs.declared.outcome.Outcome.TheVariants.{Stopped, Device, ReadFault, WriteFault, OutOfMemory}
 use Rattle.fx_run_core.specs.Ran.{outputs, inputs, Gained, Reads}
 use Rattle.fx_run_core.specs.Stepping.{Same, LostOne, WentOn, EndsBy}
 use Rattle.fx_run_core.proofs.Telling.{told_same, told_map, went_puts, output_puts, lost_one, nothing_put, nothing_read}

@@ -14,8 +14,8 @@ use Rattle.fx_machine_model.specs.Moves.{all_ones, World, move}
 use Rattle.fx_machine_model.specs.Running.{boot, run_image, image_turns, image_after}
 use Rattle.fx_machine_model.specs.declared.stop.Stop.{Stop}
 use Rattle.fx_machine.specs.Turns.{made_of, taken_by, request_of, asked, console_load}
-use Rattle.fx_run_outcomes.specs.declared.outcome.Outcome.{Outcome}
-use Rattle.fx_run_outcomes.specs.declared.outcome.Outcome.TheVariants.{Stopped, Spent, Device, ReadFault, WriteFault, OutOfMemory}
+use Rattle.fx_machine_model.specs.declared.outcome.Outcome.{Outcome}
+use Rattle.fx_machine_model.specs.declared.outcome.Outcome.TheVariants.{Stopped, Spent, Device, ReadFault, WriteFault, OutOfMemory}
 
 -- ---- the schedule
 

@@ -9,8 +9,8 @@ use Rattle.fx_device.specs.declared.bus_error.BusError.TheVariants as errors
 use Rattle.fx_machine_model.specs.Boot.{vcpus}
 use Rattle.fx_machine.specs.Turns.{Running, next_of, GoesOn, Makes, Asks, AsksInput, console_load, request_of}
 use Rattle.fx_run_core.specs.Ran.{outputs, inputs, Gained, Reads}
-use Rattle.fx_run_outcomes.specs.declared.outcome.Outcome.{Outcome}
-use Rattle.fx_run_outcomes.specs.declared.outcome.Outcome.TheVariants.{Stopped, Spent, Device, ReadFault, WriteFault, OutOfMemory}
+use Rattle.fx_machine_model.specs.declared.outcome.Outcome.{Outcome}
+use Rattle.fx_machine_model.specs.declared.outcome.Outcome.TheVariants.{Stopped, Spent, Device, ReadFault, WriteFault, OutOfMemory}
 
 -- Operations came to the bus: it carried them out, or a byte of input was noted.
 abbrev pub Notes : List DeviceOp → BusState → BusState → Type 0

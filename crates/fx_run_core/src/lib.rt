@@ -7,7 +7,7 @@ pub mod step;
 pub mod watch;
 
 use fx_base::Transcript;
-pub use fx_run_outcomes::outcome::Outcome;
+pub use fx_machine_model::outcome::Outcome;
 
 /// How a run ended, after how many turns, and the operations that it made.
 #[derive(Drop)]

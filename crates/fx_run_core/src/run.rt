@@ -14,7 +14,7 @@ use fx_base::{Sink, Source, Transcript};
 use fx_device::{Bus, Device};
 use fx_image::Image;
 use fx_machine::machine::Machine;
-use fx_run_outcomes::outcome::Outcome;
+use fx_machine_model::outcome::Outcome;
 use std::alloc::Global;
 
 /// The turns that count of a run that ended in the turn after so many.

@@ -11,8 +11,8 @@ ghost use Rattle.fx_run_core.specs.Stepping.{WentOn, EndsBy};
 use fx_base::{Sink, Source, put_all};
 use fx_device::Device;
 use fx_machine::machine::Machine;
+use fx_machine_model::outcome::Outcome;
 use fx_machine_model::stop::Turn;
-use fx_run_outcomes::outcome::Outcome;
 
 /// The vCPU number that turn i names.
 pub fn named(schedule: &[u8], i: u64) -> u64

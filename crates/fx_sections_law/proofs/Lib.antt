@@ -3,3 +3,6 @@ pub mod Sections
 pub mod Globals
 pub mod Bounds
 pub mod Granules
+pub mod Digits
+pub mod Found
+pub mod Bits

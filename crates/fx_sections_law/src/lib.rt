@@ -1,8 +1,10 @@
-//! What a placement means: which pages and addresses belong to whom.
+//! What a placement means: which pages and addresses belong to whom, and what the PKRU value of a
+//! compartment permits.
 #![tactic(auto)]
 
 ghost use Rattle.fx_sections_law.specs.Granules.{GranulesAreUnshared};
 ghost use Rattle.fx_sections_law.specs.Laws.{PairsDiffer, SectionsAreApart, GlobalsAreInTheirSections, GlobalsAreApart, GlobalsStandBehindTheRuntime, RegionsAreApart};
+ghost use Rattle.fx_sections_law.specs.Permits.{KeysPermitWhatIsGranted};
 
 /// Every section is of one pair of readers and writers, and no two are of the same.
 pub fn pairs_differ()
@@ -34,4 +36,9 @@ pub fn regions_are_apart()
 /// the runtime's objects included.
 pub fn granules_are_unshared()
     ensures { GranulesAreUnshared }
+{}
+
+/// A compartment's PKRU value permits exactly what the pairs of the sections grant.
+pub fn keys_permit_what_is_granted()
+    ensures { KeysPermitWhatIsGranted }
 {}

@@ -1,6 +1,6 @@
 use Rattle.std.proofs.Common.{map, string_bytes, inl, inr, subst, sym}
-use Rattle.fx_run_words.specs.Views.{run_given, exec_given}
-use Rattle.fx_single_command.specs.Words.{single_given}
+use Rattle.fx_cmd_base.specs.Views.{run_given, exec_given}
+use Rattle.fx_cmd_single.specs.Words.{single_given}
 use Rattle.flexos.specs.Words.{IsExec, IsCommand}
 use Rattle.flexos.specs.declared.command.Command.{Command}
 use Rattle.flexos.proofs.Running.{done_run, exec_is_no_run, no_run, no_exec, does_exec}

@@ -1,6 +1,6 @@
 use Rattle.std.proofs.Common.{◌++◌, [], ◌∷◌, List, ap, ◌∙◌, sym, arith}
-use Rattle.fx_c_blocks.specs.declared.value.Cell.{Cell}
-use Rattle.fx_c_blocks.specs.declared.value.Cell.TheVariants.{Byte}
+use Rattle.fx_c_mean_blocks.specs.declared.value.Cell.{Cell}
+use Rattle.fx_c_mean_blocks.specs.declared.value.Cell.TheVariants.{Byte}
 use Rattle.fx_c_mean.proofs.Starts.{bytes_more}
 use Rattle.fx_c_mean.proofs.start.cells_from.Goals as goal
 

@@ -1,6 +1,6 @@
 use Rattle.std.proofs.Common.{◌+◌, ◌-◌, ◌/◌, ◌++◌, List, ap, ◌∙◌, arith}
-use Rattle.fx_c_blocks.specs.declared.value.Cell.{Cell}
-use Rattle.fx_c_blocks.specs.Blocks.{bytes_of}
+use Rattle.fx_c_mean_blocks.specs.declared.value.Cell.{Cell}
+use Rattle.fx_c_mean_blocks.specs.Blocks.{bytes_of}
 use Rattle.fx_c_mean.proofs.Starts.{number_more}
 use Rattle.fx_c_mean.proofs.start.number_cells.Goals as goal
 

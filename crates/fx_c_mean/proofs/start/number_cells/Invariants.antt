@@ -1,5 +1,5 @@
 use Rattle.std.proofs.Common.{◌≡◌, ◌-◌, ◌++◌}
-use Rattle.fx_c_blocks.specs.Blocks.{bytes_of}
+use Rattle.fx_c_mean_blocks.specs.Blocks.{bytes_of}
 use Rattle.fx_c_mean.proofs.start.number_cells.Given as goal
 
 abbrev pub invariant-loop-i : goal.invariant-loop-i

@@ -1,4 +1,4 @@
-use Rattle.fx_c_heads.specs.HeadsView.{heads_tree}
+use Rattle.fx_c_types_heads.specs.HeadsView.{heads_tree}
 use Rattle.fx_c_types.proofs.Turns.{at_gives}
 use Rattle.fx_c_types.proofs.program.add_at.Goals as goal
 

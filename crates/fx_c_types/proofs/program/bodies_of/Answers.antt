@@ -1,6 +1,6 @@
 use Rattle.std.proofs.Common.{arith}
 use Rattle.std.proofs.lemmas.Result.{err_from_is_err_and}
-use Rattle.fx_c_heads.specs.HeadsView.{heads_tree}
+use Rattle.fx_c_types_heads.specs.HeadsView.{heads_tree}
 use Rattle.fx_c_types.specs.ProgramView.{bodies_tree}
 use Rattle.fx_c_types.proofs.Turns.{bodies_next, bodies_stop}
 use Rattle.fx_c_types.proofs.program.bodies_of.Goals as goal

@@ -1,5 +1,5 @@
 use Rattle.std.proofs.Common.{◌≡◌, drop}
-use Rattle.fx_c_heads.specs.HeadsView.{heads_tree}
+use Rattle.fx_c_types_heads.specs.HeadsView.{heads_tree}
 use Rattle.fx_c_types.specs.Programs.{no_bodies, bodies_of}
 use Rattle.fx_c_types.specs.ProgramView.{placed_trees, bodies_tree}
 use Rattle.fx_c_types.proofs.program.bodies_of.Given as goal

@@ -1,7 +1,7 @@
 use Rattle.std.proofs.Common.{◌≡◌, ◌∙◌, sym, ap, arith, [], length, Ok}
 use Rattle.std.proofs.lemmas.Result.{err_from_is_err_and}
-use Rattle.fx_c_heads.specs.Heads.{no_heads}
-use Rattle.fx_c_heads.specs.HeadsView.{heads_tree}
+use Rattle.fx_c_types_heads.specs.Heads.{no_heads}
+use Rattle.fx_c_types_heads.specs.HeadsView.{heads_tree}
 use Rattle.fx_c_types.specs.Programs.{tags_of, heads_of, no_bodies, bodies_of}
 use Rattle.fx_c_types.specs.ProgramView.{declarations, placed_trees, bodies_tree}
 use Rattle.fx_c_types.proofs.Lists.{length-placed_trees}

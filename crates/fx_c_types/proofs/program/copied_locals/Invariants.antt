@@ -1,5 +1,5 @@
 use Rattle.std.proofs.Common.{◌≡◌, ◌++◌, drop}
-use Rattle.fx_c_typing.specs.Locals.{local_trees}
+use Rattle.fx_c_types_rules.specs.Locals.{local_trees}
 use Rattle.fx_c_types.proofs.program.copied_locals.Given as goal
 
 abbrev pub invariant-loop-local : goal.invariant-loop-local

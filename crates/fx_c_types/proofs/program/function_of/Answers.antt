@@ -1,4 +1,4 @@
-use Rattle.fx_c_bodies.proofs.Items.{length-local_trees}
+use Rattle.fx_c_types_bodies.proofs.Items.{length-local_trees}
 use Rattle.fx_c_types.proofs.program.function_of.Goals as goal
 
 pub returns : goal.returns

@@ -1,6 +1,6 @@
 use Rattle.std.proofs.Common.{arith}
 use Rattle.std.proofs.lemmas.Result.{err_from_is_err_and}
-use Rattle.fx_c_heads.specs.HeadsView.{heads_tree}
+use Rattle.fx_c_types_heads.specs.HeadsView.{heads_tree}
 use Rattle.fx_c_types.proofs.Turns.{heads_next, heads_stop}
 use Rattle.fx_c_types.proofs.program.heads_of.Goals as goal
 

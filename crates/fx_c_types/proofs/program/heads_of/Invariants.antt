@@ -1,6 +1,6 @@
 use Rattle.std.proofs.Common.{◌≡◌, drop}
-use Rattle.fx_c_heads.specs.Heads.{no_heads}
-use Rattle.fx_c_heads.specs.HeadsView.{heads_tree}
+use Rattle.fx_c_types_heads.specs.Heads.{no_heads}
+use Rattle.fx_c_types_heads.specs.HeadsView.{heads_tree}
 use Rattle.fx_c_types.specs.Programs.{heads_of}
 use Rattle.fx_c_types.specs.ProgramView.{placed_trees}
 use Rattle.fx_c_types.proofs.program.heads_of.Given as goal

@@ -1,6 +1,6 @@
 use Rattle.std.proofs.Common.{◌&&◌, sym, ap, arith}
 use Rattle.fx_c_ast.specs.CheckedTrees.{ty_tree}
-use Rattle.fx_c_typing.specs.Types.{category}
+use Rattle.fx_c_types_rules.specs.Types.{category}
 use Rattle.fx_c_types.specs.Programs.{gives_status}
 use Rattle.fx_c_types.proofs.Lists.{some_params}
 use Rattle.fx_c_types.proofs.program.is_start.Goals as goal

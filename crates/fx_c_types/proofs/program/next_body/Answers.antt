@@ -1,6 +1,6 @@
 use Rattle.std.proofs.Common.{◌≡◌, ◌∙◌, ap, arith, get_or, length}
 use Rattle.fx_c_ast.specs.ParsedTrees.{param_trees, stmt_trees}
-use Rattle.fx_c_heads.specs.declared.heads.Head.{Head}
+use Rattle.fx_c_types_heads.specs.declared.heads.Head.{Head}
 use Rattle.fx_c_types.proofs.Starts.{no_next, next_is}
 use Rattle.fx_c_types.proofs.program.next_body.Goals as goal
 

@@ -1,8 +1,8 @@
 use Rattle.std.proofs.Common.{[], ◌∷◌, true, rules}
-use Rattle.fx_c_blocks.specs.declared.value.Value.TheVariants.{Number, Void}
+use Rattle.fx_c_mean_blocks.specs.declared.value.Value.TheVariants.{Number, Void}
 use Rattle.fx_c_mean_model.specs.Programs.{program_of}
-use Rattle.fx_c_control.specs.Views.{frames_of}
-use Rattle.fx_c_acts.specs.Cores.{state_of}
+use Rattle.fx_c_mean_control.specs.Views.{frames_of}
+use Rattle.fx_c_mean_acts.specs.Cores.{state_of}
 use Rattle.fx_c_mean.specs.Walks.{is_console}
 use Rattle.fx_c_mean.proofs.Inputs.{no_load}
 use Rattle.fx_c_mean.proofs.Known.{stored}

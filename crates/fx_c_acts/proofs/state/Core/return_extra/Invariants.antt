@@ -1,7 +1,0 @@
-use Rattle.std.proofs.Common.{◌≡◌, drop}
-use Rattle.fx_c_mean_model.specs.States.{unwind}
-use Rattle.fx_c_control.specs.Views.{frames_of}
-use Rattle.fx_c_acts.proofs.state.Core.return_extra.Given as goal
-
-abbrev pub invariant-loop-i : goal.invariant-loop-i
-invariant-loop-i l = unwind (frames_of (drop l.i l.self.frames)) ≡ unwind (frames_of l.self.frames)

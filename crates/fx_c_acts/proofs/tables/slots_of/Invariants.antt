@@ -1,7 +1,0 @@
-use Rattle.std.proofs.Common.{◌≡◌, ◌+◌, drop}
-use Rattle.fx_c_code.specs.Tables.{looked_up}
-use Rattle.fx_c_acts.specs.Layers.{slots_by}
-use Rattle.fx_c_acts.proofs.tables.slots_of.Given as goal
-
-abbrev pub invariant-loop-local : goal.invariant-loop-local
-invariant-loop-local l = l.bytes + slots_by (looked_up l.table) (drop l.local-index l.locals) ≡ slots_by (looked_up l.table) l.locals

@@ -1,5 +1,0 @@
-use Rattle.std.proofs.Common.{length}
-use Rattle.fx_c_blocks.proofs.cells.+number.Given as goal
-
-abbrev pub decreases-number : goal.decreases-number
-decreases-number l = length l.cells.now

@@ -1,4 +1,0 @@
-pub mod Written
-pub mod Sizes
-pub mod Heads
-pub mod HeadsView

@@ -1,5 +1,0 @@
-use Rattle.fx_c_judgements.proofs.Judged.{one_statement}
-use Rattle.fx_c_judgements.proofs.statements_are_determined.Goals as goal
-
-pub returns : goal.returns
-returns c = one_statement

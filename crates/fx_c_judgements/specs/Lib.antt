@@ -1,7 +1,0 @@
-pub mod Types
-pub mod Values
-pub mod Operators
-pub mod Calls
-pub mod Expressions
-pub mod Statements
-pub mod Laws

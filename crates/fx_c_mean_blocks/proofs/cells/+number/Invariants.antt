@@ -1,0 +1,5 @@
+use Rattle.std.proofs.Common.{length}
+use Rattle.fx_c_mean_blocks.proofs.cells.+number.Given as goal
+
+abbrev pub decreases-number : goal.decreases-number
+decreases-number l = length l.cells.now

@@ -1,4 +1,0 @@
-//! Tables of the names that a program declares.
-#![tactic(auto)]
-
-pub mod names;

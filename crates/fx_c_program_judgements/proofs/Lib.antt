@@ -1,4 +1,0 @@
-pub mod Steps
-pub mod HeadRules
-pub mod ProgramRules
-pub mod Judged

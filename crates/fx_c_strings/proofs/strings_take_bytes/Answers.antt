@@ -1,5 +1,0 @@
-use Rattle.fx_c_strings.proofs.Written.{few_strings}
-use Rattle.fx_c_strings.proofs.strings_take_bytes.Goals as goal
-
-pub returns : goal.returns
-returns c = few_strings

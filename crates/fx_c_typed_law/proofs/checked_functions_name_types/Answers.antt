@@ -1,5 +1,0 @@
-use Rattle.fx_c_typed_law.proofs.Facts.{right_program, functions_are_named}
-use Rattle.fx_c_typed_law.proofs.checked_functions_name_types.Goals as goal
-
-pub returns : goal.returns
-returns c = λ files p is. functions_are_named p (right_program files p is)

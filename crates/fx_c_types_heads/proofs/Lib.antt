@@ -1,0 +1,4 @@
+pub mod Fields
+pub mod Sized
+pub mod Tables
+pub mod Lists

@@ -1,0 +1,5 @@
+pub mod Written
+pub mod Sizes
+pub mod Heads
+pub mod HeadsView
+pub mod Names

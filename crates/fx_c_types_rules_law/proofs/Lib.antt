@@ -1,0 +1,13 @@
+pub mod Ends
+pub mod TypeRules
+pub mod ValueRules
+pub mod OperatorRules
+pub mod CallRules
+pub mod ExpressionRules
+pub mod StatementRules
+pub mod Judged
+pub mod Examples
+pub mod Steps
+pub mod HeadRules
+pub mod ProgramRules
+pub mod JudgedPrograms

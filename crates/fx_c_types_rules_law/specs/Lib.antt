@@ -1,0 +1,10 @@
+pub mod Types
+pub mod Values
+pub mod Operators
+pub mod Calls
+pub mod Expressions
+pub mod Statements
+pub mod Laws
+pub mod Declarations
+pub mod WholePrograms
+pub mod ProgramLaws

@@ -1,0 +1,15 @@
+pub mod Trees
+pub mod Nodes
+pub mod Bodies
+pub mod Programs
+pub mod Weaker
+pub mod Devices
+pub mod Members
+pub mod Numbers
+pub mod Sizes
+pub mod Heads
+pub mod Elements
+pub mod Examples
+pub mod Checked
+pub mod Written
+pub mod StringExamples

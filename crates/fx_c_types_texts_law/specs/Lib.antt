@@ -1,0 +1,6 @@
+pub mod Each
+pub mod Fits
+pub mod Texts
+pub mod Laws
+pub mod Strings
+pub mod StringLaws

@@ -1,6 +1,0 @@
-use Rattle.std.proofs.Common.{sym}
-use Rattle.fx_c_typing.proofs.Rows.{other_count}
-use Rattle.fx_c_typing.proofs.calls.are_passed.Goals as goal
-
-pub returns-then-params-args : goal.returns-then-params-args
-returns-then-params-args c = sym (other_count c.args.params.now c.args.args.now c.if-params-args.true)

@@ -1,4 +1,0 @@
-pub mod Each
-pub mod Fits
-pub mod Texts
-pub mod Laws

@@ -1,0 +1,47 @@
+-- The checked program of a configuration and its sources, and why there is none.
+use Rattle.std.specs.Prelude.{◌≡◌, ℕ, List, map, Option, Ok, Err}
+use Rattle.fx_base.specs.Files.{Held}
+use Rattle.fx_config.specs.declared.configuration.Config.{Config as Configuration}
+use Rattle.fx_c_ast.specs.declared.checked.TProgram.{TProgram}
+use Rattle.fx_c_types.specs.declared.program.SourceFile.{SourceFile}
+use Rattle.fx_c_types.specs.declared.fault.TypeError.TheVariants.{Rule}
+use Rattle.fx_c_types.specs.Programs.{well_typed}
+use Rattle.fx_c_types.specs.ProgramView.{declarations, program_tree}
+use Rattle.fx_cmd_load.specs.declared.parsing.ParsedFile.{ParsedFile}
+use Rattle.fx_cmd_load.specs.declared.error.LoadError.TheVariants as load
+use Rattle.fx_cmd_load.specs.Loading.{IsLoaded, LoadCause}
+use Rattle.fx_cmd_load.specs.declared.program_error.ProgramError.{ProgramError}
+use Rattle.fx_cmd_load.specs.declared.program_error.ProgramError.TheVariants.{File, Config, Parse, Types, OutOfMemory}
+
+-- a parsed file, for the check
+abbrev pub source_of : ParsedFile → SourceFile
+source_of f = record { library = f.library; unit = f.unit }
+
+abbrev pub sources_of : List ParsedFile → List SourceFile
+sources_of files = map source_of files
+
+-- the program is what the files mean, and they keep all rules
+abbrev pub IsChecked : List ParsedFile → TProgram → Type 0
+IsChecked files p = well_typed (declarations (sources_of files)) ≡ Ok (program_tree p)
+
+-- the configuration is what the text under the name means, and the program is that of the texts of its files
+abbrev pub IsProgramOf : List ℕ → Option Held → Configuration → TProgram → Type 0
+IsProgramOf name held k p = (files : List ParsedFile) × IsLoaded name held k files × IsChecked files p
+
+-- a rule that the files violate first
+abbrev pub BreaksRule : List ParsedFile → ProgramError → Type 0
+BreaksRule files (Types kind declaration) = well_typed (declarations (sources_of files)) ≡ Err (Rule kind declaration)
+BreaksRule files (File name error) = ⊥
+BreaksRule files (Config error) = ⊥
+BreaksRule files (Parse file error) = ⊥
+BreaksRule files OutOfMemory = Unit {0}
+
+-- Why there is no program, by the first step that failed: nothing is loaded, for its cause; or files are
+-- loaded, and this is the first rule that they violate. Want of memory is free.
+abbrev pub ProgramCause : List ℕ → Option Held → ℕ → ℕ → ProgramError → Type 0
+ProgramCause name held before now (File n error) = LoadCause name held before now (load.File n error)
+ProgramCause name held before now (Config error) = LoadCause name held before now (load.Config error)
+ProgramCause name held before now (Parse file error) = LoadCause name held before now (load.Parse file error)
+ProgramCause name held before now (Types kind declaration) =
+    (k : Configuration) × (files : List ParsedFile) × IsLoaded name held k files × (well_typed (declarations (sources_of files)) ≡ Err (Rule kind declaration))
+ProgramCause name held before now OutOfMemory = Unit {0}

@@ -1,0 +1,15 @@
+//! The trees of a configuration's program.
+#![tactic(auto)]
+
+ghost use Rattle.fx_cmd_load_law.specs.Laws.{ConfiguredProgramsAreRight, ConfiguredProgramsFit};
+
+/// In each body of a configuration's program every number is there, and every type is right.
+pub fn configured_programs_are_right()
+    ensures { ConfiguredProgramsAreRight }
+{}
+
+/// Each device in it is one of 16, each register one of its 512; and elements that are counted have
+/// from 1 byte to 64 MiB each.
+pub fn configured_programs_fit()
+    ensures { ConfiguredProgramsFit }
+{}

@@ -1,0 +1,6 @@
+pub mod Strings
+pub mod Ready
+pub mod Ways
+pub mod Granted
+pub mod Hex
+pub mod Steps

@@ -1,0 +1,5 @@
+pub mod Failures
+pub mod Comes
+pub mod Reports
+pub mod Placing
+pub mod Table

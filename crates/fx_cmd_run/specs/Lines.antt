@@ -1,0 +1,55 @@
+-- The status and the line that the command `run` ends with.
+use Rattle.std.specs.Prelude.{ℕ, List, [], ◌∷◌, ◌++◌, unwrap_or, Result, Ok, Err, codes}
+use Rattle.std.specs.Fmt.{decimal}
+use Rattle.fx_base.specs.declared.files.FileError.{FileError}
+use Rattle.fx_base.specs.declared.files.FileError.TheVariants as errors
+use Rattle.fx_image.specs.declared.error.ImageError.{ImageError}
+use Rattle.fx_image.specs.declared.error.ImageError.TheVariants as faults
+use Rattle.fx_cmd_run.specs.Verdicts.{status_of}
+use Rattle.fx_cmd_run.specs.VerdictLines.{line_of}
+use Rattle.fx_cmd_base.specs.Words.{RunGiven}
+use Rattle.fx_cmd_run.specs.declared.command.Finished.{Finished}
+use Rattle.fx_cmd_run.specs.declared.load.Unbegun.{Unbegun}
+use Rattle.fx_cmd_run.specs.declared.load.Unbegun.TheVariants.{Unread, Refused, OutOfMemory}
+use Rattle.fx_cmd_run.specs.declared.load.Which.{Which}
+use Rattle.fx_cmd_run.specs.declared.load.Which.TheVariants as which
+
+abbrev pub file_words : FileError → List ℕ
+file_words errors.Failed = codes "file fault: "
+file_words errors.Missing = codes "no file: "
+file_words errors.TooLong = codes "file too long: "
+file_words errors.OutOfMemory = codes "file fault: "
+
+-- The name of one of the files that a run reads.
+abbrev pub name_of : RunGiven → Which → List ℕ
+name_of given which.Image = given.image
+name_of given which.Schedule = unwrap_or given.options.schedule []
+
+-- Why bytes are no image, by the cause's name and its number.
+abbrev pub image_words : ImageError → List ℕ
+image_words faults.Magic = codes "refused: image Magic"
+image_words faults.Version = codes "refused: image Version"
+image_words faults.Short = codes "refused: image Short"
+image_words faults.Extra = codes "refused: image Extra"
+image_words (faults.Field number) = codes "refused: image Field " ++ decimal number
+image_words (faults.KeySequence place) = codes "refused: image KeySequence " ++ decimal place
+image_words faults.OutOfMemory = codes "out of memory"
+
+abbrev pub unbegun_words : RunGiven → Unbegun → List ℕ
+unbegun_words given (Unread file error) = file_words error ++ name_of given file
+unbegun_words given (Refused error) = image_words error
+unbegun_words given OutOfMemory = codes "out of memory"
+
+abbrev pub unbegun_status : Unbegun → ℕ
+unbegun_status (Unread file error) = 4
+unbegun_status (Refused error) = 3
+unbegun_status OutOfMemory = 6
+
+abbrev pub came_status : Result Finished Unbegun → ℕ
+came_status (Ok done) = status_of done.verdict
+came_status (Err why) = unbegun_status why
+
+-- The line, ended by a line feed.
+abbrev pub came_line : RunGiven → Result Finished Unbegun → List ℕ
+came_line given (Ok done) = line_of done.image done.verdict
+came_line given (Err why) = unbegun_words given why ++ 10 ∷ []

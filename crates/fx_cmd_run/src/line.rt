@@ -1,0 +1,110 @@
+//! The line that the command ends with, and its status.
+
+ghost use Rattle.std.specs.Prelude.{◌≡◌, ◌++◌, ◌∷◌, [], IfOk, codes, string_bytes};
+ghost use Rattle.std.specs.Fmt.{decimal};
+ghost use Rattle.fx_cmd_base.specs.Views.{run_given};
+ghost use Rattle.fx_cmd_run.specs.Lines.{file_words, name_of, image_words, unbegun_words, unbegun_status, came_status, came_line};
+
+use crate::command::Finished;
+use crate::load::{Unbegun, Which};
+use fx_base::FileError;
+use fx_cmd_base::words::RunWords;
+use fx_image::ImageError;
+use std::alloc::{AllocError, Global};
+
+/// The name of one of the files that a run reads.
+fn name_of<'a>(words: &RunWords<'a>, which: Which) -> &'a str
+    ensures { result.now ≡ name_of (run_given words.now) which }
+{
+    match which {
+        Which::Image => words.image,
+        Which::Schedule => match words.options.schedule {
+            Some(name) => name,
+            None => "",
+        },
+    }
+}
+
+/// The words of a file's fault.
+pub fn fault_words(alloc: Global, name: &str, error: FileError) -> Result<String, AllocError>
+    ensures { IfOk result (λ s. string_bytes s ≡ file_words error ++ name.now) }
+{
+    let words = match error {
+        FileError::Failed | FileError::OutOfMemory => "file fault: ",
+        FileError::Missing => "no file: ",
+        FileError::TooLong => "file too long: ",
+    };
+    let mut text = String::from_str(alloc, words)?;
+    text.push_str(name)?;
+    Ok(text)
+}
+
+/// The words of a refused image.
+fn image_words(alloc: Global, error: ImageError) -> Result<String, AllocError>
+    ensures { IfOk result (λ s. string_bytes s ≡ image_words error) }
+{
+    match error {
+        ImageError::Magic => String::from_str(alloc, "refused: image Magic"),
+        ImageError::Version => String::from_str(alloc, "refused: image Version"),
+        ImageError::Short => String::from_str(alloc, "refused: image Short"),
+        ImageError::Extra => String::from_str(alloc, "refused: image Extra"),
+        ImageError::Field(number) => format!(in alloc; "refused: image Field {number}"),
+        ImageError::KeySequence(place) => format!(in alloc; "refused: image KeySequence {place}"),
+        ImageError::OutOfMemory => String::from_str(alloc, "out of memory"),
+    }
+}
+
+/// The words of a run that wasn't begun.
+fn unbegun_words(alloc: Global, words: &RunWords<'_>, why: Unbegun) -> Result<String, AllocError>
+    ensures { IfOk result (λ s. string_bytes s ≡ unbegun_words (run_given words.now) why) }
+{
+    match why {
+        Unbegun::Unread { which, error } => fault_words(alloc, name_of(words, which), error),
+        Unbegun::Refused(error) => image_words(alloc, error),
+        Unbegun::OutOfMemory => String::from_str(alloc, "out of memory"),
+    }
+}
+
+/// The line of a run that wasn't begun.
+fn unbegun_line(alloc: Global, words: &RunWords<'_>, why: Unbegun) -> Result<Vec<u8>, AllocError>
+    ensures { IfOk result (λ v. v.items ≡ unbegun_words (run_given words.now) why ++ 10 ∷ []) }
+{
+    let mut line = unbegun_words(alloc, words, why)?;
+    line.push_str("\n")?;
+    Ok(line.into_bytes())
+}
+
+/// The status of a run that wasn't begun.
+fn unbegun_status(why: Unbegun) -> u8
+    ensures { result ≡ unbegun_status why }
+{
+    match why {
+        Unbegun::Unread { .. } => 4,
+        Unbegun::Refused(_) => 3,
+        Unbegun::OutOfMemory => 6,
+    }
+}
+
+/// The status that the command ends with.
+pub fn status(came: &Result<Finished, Unbegun>) -> u8
+    ensures { result ≡ came_status came.now }
+{
+    match came {
+        Ok(done) => done.verdict.status(),
+        Err(why) => unbegun_status(*why),
+    }
+}
+
+/// The line that the command ends with, ended by a line feed.
+pub fn line(
+    alloc: Global,
+    words: &RunWords<'_>,
+    came: &Result<Finished, Unbegun>,
+) -> Result<Vec<u8>, AllocError>
+    ensures { IfOk result (λ v. v.items ≡ came_line (run_given words.now) came.now) }
+{
+    match came {
+        Ok(done) => done.verdict.line(alloc, &done.image),
+        Err(why) => unbegun_line(alloc, words, *why),
+    }
+}

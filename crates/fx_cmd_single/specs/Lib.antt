@@ -1,0 +1,9 @@
+pub mod Words
+pub mod Verdicts
+pub mod Comes
+pub mod Lines
+pub mod Reports
+pub mod Streams
+pub mod Devices
+pub mod Ran
+pub mod Stepping

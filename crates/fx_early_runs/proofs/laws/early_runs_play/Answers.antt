@@ -1,5 +1,0 @@
-use Rattle.fx_early_runs.proofs.Played as played
-use Rattle.fx_early_runs.proofs.laws.early_runs_play.Goals as goal
-
-pub returns : goal.returns
-returns c = played.early_runs_play c.runs_write_constants.ensures

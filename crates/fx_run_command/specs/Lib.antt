@@ -1,4 +1,0 @@
-pub mod Causes
-pub mod Comes
-pub mod Lines
-pub mod Reports

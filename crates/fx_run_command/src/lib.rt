@@ -1,7 +1,0 @@
-//! The command `run IMAGE`: reads the image and the schedule, runs it, and reports what it came to.
-#![tactic(auto)]
-
-pub mod command;
-pub mod line;
-pub mod load;
-pub mod report;

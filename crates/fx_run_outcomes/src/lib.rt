@@ -1,4 +1,0 @@
-//! How a run of an image ends.
-#![tactic(auto)]
-
-pub mod outcome;

@@ -1,5 +1,0 @@
-use Rattle.std.proofs.Common.{length}
-use Rattle.fx_run_words.proofs.words.+digits_number.Given as goal
-
-abbrev pub decreases-digits_number : goal.decreases-digits_number
-decreases-digits_number l = length l.digits.now

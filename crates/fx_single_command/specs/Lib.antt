@@ -1,5 +1,0 @@
-pub mod Words
-pub mod Verdicts
-pub mod Comes
-pub mod Lines
-pub mod Reports

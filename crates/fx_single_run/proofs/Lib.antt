@@ -1,5 +1,0 @@
-pub mod Telling
-pub mod Serving
-pub mod Stepped
-pub mod Moments
-pub mod Views

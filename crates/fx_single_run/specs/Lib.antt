@@ -1,4 +1,0 @@
-pub mod Streams
-pub mod Devices
-pub mod Ran
-pub mod Stepping

@@ -1,4 +1,0 @@
-pub mod Few
-pub mod Stages
-pub mod Trees
-pub mod Work

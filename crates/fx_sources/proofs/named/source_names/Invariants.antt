@@ -1,6 +1,0 @@
-use Rattle.std.proofs.Common.{◌≡◌, ◌++◌, drop}
-use Rattle.fx_sources.specs.Named.{source_files, from_library}
-use Rattle.fx_sources.proofs.named.source_names.Given as goal
-
-abbrev pub invariant-loop-number : goal.invariant-loop-number
-invariant-loop-number l = source_files l.all.items ++ from_library l.number (drop l.number l.libraries) ≡ from_library 0 l.libraries
