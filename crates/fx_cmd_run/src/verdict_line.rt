@@ -122,7 +122,7 @@ fn put_digits(line: &mut Vec<u8>, count: usize, number: u64) -> Result<(), Alloc
 }
 
 /// Adds sixteen hexadecimal digits.
-#[tactic(auto, unfolding(crate::specs::Lines::hex))]
+#[tactic(auto, unfolding(crate::specs::VerdictLines::hex))]
 fn put_hex(line: &mut Vec<u8>, number: u64) -> Result<(), AllocError>
     ensures { OnOk result (line.new.items ≡ line.old.items ++ hex number) }
 {
