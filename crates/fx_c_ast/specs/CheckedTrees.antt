@@ -9,6 +9,7 @@ use Rattle.fx_c_ast.specs.declared.checked.TKind.{TKind, Number, Literal, Global
 use Rattle.fx_c_ast.specs.declared.checked.TStmt.{TStmt, Empty, Block', Eval, Assign, If', While', For', Break, Continue, Return, Row_of-TStmt, end_of-TStmt, more_of-TStmt, Held-TStmt-If-2, None', Some'}
 use Rattle.fx_c_ast.specs.declared.checked.TStmt as stmt
 use Rattle.fx_c_ast.specs.declared.checked.TMember.{TMember}
+use Rattle.fx_c_ast.specs.declared.checked.TLocal.{TLocal}
 use Rattle.fx_c_ast.specs.declared.checked.TStruct.{TStruct}
 
 pub data TyTree : Type 0 where
@@ -150,3 +151,8 @@ member_types (m ∷ ms) = ty_tree m.ty ∷ member_types ms
 abbrev pub struct_types : List TStruct → List (List TyTree)
 struct_types [] = []
 struct_types (s ∷ ss) = member_types s.members ∷ struct_types ss
+
+-- the types of a function's parameters and locals, in order
+abbrev pub local_types : List TLocal → List TyTree
+local_types [] = []
+local_types (l ∷ ls) = ty_tree l.ty ∷ local_types ls

@@ -1,11 +1,11 @@
--- The bytes of stack that a call of a function takes.
+-- The bytes of stack that a call of a function takes (this project's own layout).
 use Rattle.std.specs.Prelude.{ℕ, ◌+◌, ◌*◌, max, List, [], ◌∷◌, Option, Some, None}
 use Rattle.fx_c_ast.specs.declared.operator.Binop.{Binop}
 use Rattle.fx_c_ast.specs.declared.operator.Binop.TheVariants.{Land, Lor}
-use Rattle.fx_c_ast.specs.declared.checked.TLocal.{TLocal}
 use Rattle.fx_c_ast.specs.declared.checked.TFunction.{TFunction}
-use Rattle.fx_c_ast.specs.CheckedTrees.{TyTree, TExprTree, ENumber, ELiteral, EGlobal, ELocal, EUn, EBin, ECast, EConvert, ESize, EIndex, EMember, EArrow, ECall, EGate, EGetc, EPutc, EDevLoad, EDevStore, ESpawn, ESwitch, EMe, TExprTrees, NoTExprs, MoreTExprs, TStmtTree, SEmpty, SBlock, SLocal, SEval, SAssign, SIf, SWhile, SFor, SBreak, SContinue, SReturn, TStmtTrees, NoTStmts, MoreTStmts, MaybeTStmt, NoTStmt, OneTStmt, ty_tree, tstmt_trees}
-use Rattle.fx_c_ast.specs.Layout.{layout_of, round_up}
+use Rattle.fx_c_ast.specs.CheckedTrees.{TyTree, TExprTree, ENumber, ELiteral, EGlobal, ELocal, EUn, EBin, ECast, EConvert, ESize, EIndex, EMember, EArrow, ECall, EGate, EGetc, EPutc, EDevLoad, EDevStore, ESpawn, ESwitch, EMe, TExprTrees, NoTExprs, MoreTExprs, TStmtTree, SEmpty, SBlock, SLocal, SEval, SAssign, SIf, SWhile, SFor, SBreak, SContinue, SReturn, TStmtTrees, NoTStmts, MoreTStmts, MaybeTStmt, NoTStmt, OneTStmt, tstmt_trees, local_types}
+use Rattle.fx_c_ast.specs.declared.layout.Layout.{Layout}
+use Rattle.fx_c_ast.specs.Layout.{type_layout, known_layouts, round_up}
 
 -- of two operands that are both pending before an operation
 abbrev pub need_two : Binop → ℕ → ℕ → ℕ
@@ -75,19 +75,32 @@ abbrev mutual
   need_stmts NoTStmts = 0
   need_stmts (MoreTStmts s rest) = max (need_stmt s) (need_stmts rest)
 
--- pending operands of a function, in words of 8 bytes, an even number
+-- the slot of a local of so many bytes: it begins 16 bytes behind the one before it
+abbrev pub slot_size : ℕ → ℕ
+slot_size bytes = round_up bytes 16 + 16
+
+-- the slots of parameters and locals of these types, where the layout of each struct is known
+abbrev pub slots_size : (ℕ → Layout) → List TyTree → ℕ
+slots_size known [] = 0
+slots_size known (t ∷ ts) = slot_size (type_layout known t).size + slots_size known ts
+
+-- the return address and the saved frame pointer, the slots, and the pending operands, which are
+-- words of 8 bytes and an even number
+abbrev pub frame_bytes : (slots pending : ℕ) → ℕ
+frame_bytes slots pending = 16 + slots + 8 * round_up pending 2
+
+-- the frame of a call, by the types of parameters and locals and by the body
+abbrev pub frame_size : (ℕ → Layout) → List TyTree → TStmtTrees → ℕ
+frame_size known locals body = frame_bytes (slots_size known locals) (need_stmts body)
+
+-- pending operands of a function, in words of 8 bytes
 abbrev pub depth : TFunction → ℕ
 depth f = round_up (need_stmts (tstmt_trees f.body.items)) 2
 
--- the slots of parameters and locals: each begins 16 bytes behind the one before it
-abbrev pub slots_size : List (List TyTree) → List TLocal → ℕ
-slots_size structs [] = 0
-slots_size structs (l ∷ ls) = round_up (layout_of structs (ty_tree l.ty)).size 16 + 16 + slots_size structs ls
-
--- parameters and locals
+-- parameters and locals of a function of a program with these structs
 abbrev pub locals_size : List (List TyTree) → TFunction → ℕ
-locals_size structs f = slots_size structs f.locals
+locals_size structs f = slots_size (known_layouts structs) (local_types f.locals)
 
--- the return address and the saved frame pointer, the slots, and the pending operands
+-- the frame of a function
 abbrev pub fs : List (List TyTree) → TFunction → ℕ
-fs structs f = 16 + locals_size structs f + 8 * depth f
+fs structs f = frame_size (known_layouts structs) (local_types f.locals) (tstmt_trees f.body.items)

@@ -69,21 +69,28 @@ fn repeated(of: Layout, t: &Ty) -> Layout
     }
 }
 
-fn integer_layout(i: IntType) -> Layout
-    ensures size { result.size ≡ integer_size i }
-    ensures align { result.align ≡ integer_size i }
+/// The bytes of an integer type (System V ABI for x86-64, "Data representation").
+pub fn integer_size(i: IntType) -> u64
+    ensures { result ≡ integer_size i }
 {
-    let size = match i {
+    match i {
         IntType::Char | IntType::Uchar => 1,
         IntType::Short | IntType::Ushort => 2,
         IntType::Int | IntType::Uint => 4,
         IntType::Long | IntType::Ulong => 8,
-    };
+    }
+}
+
+fn integer_layout(i: IntType) -> Layout
+    ensures size { result.size ≡ integer_size i }
+    ensures align { result.align ≡ integer_size i }
+{
+    let size = integer_size(i);
     Layout { size, align: size }
 }
 
-// The next multiple of an alignment.
-fn next_multiple(at: u64, align: u64) -> u64
+/// The next multiple of an alignment, in bytes.
+pub fn next_multiple(at: u64, align: u64) -> u64
     requires small { at ≤ 67108864 }
     requires positive { 1 ≤ align }
     requires bounded { align ≤ 8 }

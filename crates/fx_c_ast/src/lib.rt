@@ -7,3 +7,4 @@ pub mod layout;
 pub mod operator;
 pub mod parsed;
 pub mod sequence;
+pub mod stack;

@@ -4,16 +4,15 @@ use Rattle.std.proofs.Math.Path.{fun_ext}
 use Rattle.std.specs.Prelude.{slice_get, slice_index_or, replicate}
 use Rattle.fx_c_ast.specs.declared.checked.TStruct.{TStruct}
 use Rattle.fx_c_ast.specs.declared.checked.TFunction.{TFunction}
-use Rattle.fx_c_ast.specs.declared.checked.TLocal.{TLocal}
 use Rattle.fx_c_ast.specs.CheckedTrees.{ty_tree, member_types, struct_types}
 use Rattle.fx_c_ast.proofs.Layouts.{types_length, types_at}
 use Rattle.std.proofs.lemmas.Bool.{ltb-true, ltb-false}
 use Rattle.fx_c_ast.specs.declared.layout.Layout.{Layout}
 use Rattle.fx_c_ast.specs.CheckedTrees.{TyTree}
 use Rattle.fx_c_ast.specs.Layout.{members_layout, struct_layout, known_layouts, type_layout, round_up}
-use Rattle.fx_c_ast.specs.StackUse.{depth, slots_size, fs}
+use Rattle.fx_c_ast.specs.StackUse.{fs}
 use Rattle.fx_c_mean_control.specs.Tables.{looked_up}
-use Rattle.fx_c_mean_acts.specs.Layers.{layer, layers, all_layouts, slots_by, frame_by}
+use Rattle.fx_c_mean_acts.specs.Layers.{layer, layers, all_layouts, frame_by}
 use Rattle.fx_c_mean_model.specs.Programs.{Function, no_function, function_of}
 
 -- ---- frames
@@ -97,16 +96,9 @@ member_missing ss n l = past_types ss n (ltb-false n (length ss) (sym l))
 
 -- ---- stack use
 
-slots_are : (all : List (List TyTree)) (ls : List TLocal) → slots_by (known_layouts all) ls ≡ slots_size all ls
-slots_are all [] = refl
-slots_are all (l ∷ ls) = ap (λ (n : ℕ). round_up (type_layout (known_layouts all) (ty_tree l.ty)).size 16 + 16 + n) (slots_are all ls)
-
-frame_is : (all : List (List TyTree)) (f : TFunction) → frame_by (known_layouts all) f ≡ fs all f
-frame_is all f = ap (λ (n : ℕ). 16 + n + 8 * depth f) (slots_are all f.locals)
-
 -- the stack use of each function, by a table of the structs' layouts
 pub frames_are : (all : List (List TyTree)) (table : List Layout) → table ≡ all_layouts all → (gs : List TFunction) → map (λ (f : TFunction). frame_by (looked_up table) f) gs ≡ map (λ (f : Function). f.frame) (map (function_of all) gs)
 frames_are all table e [] = refl
 frames_are all table e (g ∷ gs) =
-    ap (λ (n : ℕ). n ∷ map (λ (f : TFunction). frame_by (looked_up table) f) gs) (ap (λ (k : ℕ → Layout). frame_by k g) (tables table all e) ∙ frame_is all g)
+    ap (λ (n : ℕ). n ∷ map (λ (f : TFunction). frame_by (looked_up table) f) gs) (ap (λ (k : ℕ → Layout). frame_by k g) (tables table all e))
     ∙ ap (λ (ns : List ℕ). fs all g ∷ ns) (frames_are all table e gs)

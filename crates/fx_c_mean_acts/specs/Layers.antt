@@ -1,11 +1,10 @@
 -- The layouts of structs, made round by round: after k rounds they are those in which at most k structs
 -- stand inside one another by value.
-use Rattle.std.specs.Prelude.{ℕ, zero, suc, ◌+◌, ◌*◌, List, [], ◌∷◌, length, map, replicate}
+use Rattle.std.specs.Prelude.{ℕ, zero, suc, List, length, map, replicate}
 use Rattle.fx_c_ast.specs.declared.layout.Layout.{Layout}
-use Rattle.fx_c_ast.specs.CheckedTrees.{TyTree, ty_tree}
-use Rattle.fx_c_ast.specs.Layout.{members_layout, type_layout, round_up}
-use Rattle.fx_c_ast.specs.StackUse.{depth}
-use Rattle.fx_c_ast.specs.declared.checked.TLocal.{TLocal}
+use Rattle.fx_c_ast.specs.CheckedTrees.{TyTree, local_types, tstmt_trees}
+use Rattle.fx_c_ast.specs.Layout.{members_layout}
+use Rattle.fx_c_ast.specs.StackUse.{frame_size}
 use Rattle.fx_c_ast.specs.declared.checked.TFunction.{TFunction}
 use Rattle.fx_c_mean_control.specs.Tables.{looked_up}
 
@@ -22,9 +21,5 @@ all_layouts all = layers all (length all)
 
 -- ---- stack use, where the layouts of structs are known
 
-abbrev pub slots_by : (ℕ → Layout) → List TLocal → ℕ
-slots_by known [] = 0
-slots_by known (l ∷ ls) = round_up (type_layout known (ty_tree l.ty)).size 16 + 16 + slots_by known ls
-
 abbrev pub frame_by : (ℕ → Layout) → TFunction → ℕ
-frame_by known f = 16 + slots_by known f.locals + 8 * depth f
+frame_by known f = frame_size known (local_types f.locals) (tstmt_trees f.body.items)

@@ -1,17 +1,20 @@
 //! Tables of a program: the layouts of its structs and the stack use of its functions.
 
-ghost use Rattle.std.specs.Prelude.{◌≡◌, ◌+◌, IfOk, IfSome, IsTrue, map};
-ghost use Rattle.fx_c_ast.specs.CheckedTrees.{struct_types};
-ghost use Rattle.fx_c_ast.specs.Layout.{round_up};
+ghost use Rattle.std.specs.Prelude.{◌≡◌, IfOk, IfSome, IsTrue, map};
+ghost use Rattle.fx_c_ast.specs.CheckedTrees.{struct_types, local_types};
+ghost use Rattle.fx_c_ast.specs.StackUse.{slots_size};
 ghost use Rattle.fx_c_mean_control.specs.Tables.{looked_up};
 ghost use Rattle.fx_c_mean_model.specs.Programs.{Function, program_of};
-ghost use Rattle.fx_c_mean_acts.specs.Layers.{layer, all_layouts, slots_by, frame_by};
+ghost use Rattle.fx_c_mean_acts.specs.Layers.{layer, all_layouts, frame_by};
 
 use fx_c_ast::checked::{TFunction, TLocal, TProgram, TStruct};
 use fx_c_ast::layout::Layout;
+use fx_c_ast::stack::{frame_bytes, need_stmts, slot_size};
 use fx_c_mean_control::layouts::{layout, struct_layout};
-use fx_c_types::need::need_stmts;
 use std::alloc::{AllocError, Global};
+
+/// No frame has more bytes or pending operands.
+const MOST: u64 = 0x1_0000_0000;
 
 /// The layouts of a program's structs. It goes round by round until nothing changes, so as often as
 /// structs stand inside one another.
@@ -88,32 +91,26 @@ fn frame_of(table: &[Layout], f: &TFunction) -> Option<u32>
 {
     let slots = slots_of(table, f.locals.as_slice())?;
     let need = need_stmts(&f.body)?;
-    if need > 0x1_0000_0000 {
+    if slots > MOST || need > MOST {
         return None;
     }
-    let pending = (need + 1) / 2 * 16;
-    match u32::try_from(slots.checked_add(pending + 16)?) {
+    match u32::try_from(frame_bytes(slots, need)) {
         Ok(bytes) => Some(bytes),
         Err(_) => None,
     }
 }
 
-/// The bytes of the slots of parameters and locals, if they are below 2^64.
+/// The bytes of the slots of parameters and locals, if they are below 2^64 and none passes 2^32.
 fn slots_of(table: &[Layout], locals: &[TLocal]) -> Option<u64>
-    ensures { IfSome result (λ n. n ≡ slots_by (looked_up table.now) locals.now) }
+    ensures { IfSome result (λ n. n ≡ slots_size (looked_up table.now) (local_types locals.now)) }
 {
     let mut bytes: u64 = 0;
     for local in locals {
         let of = layout(table, &local.ty)?;
-        bytes = bytes.checked_add(slot_bytes(of.size)?)?;
+        if of.size > MOST {
+            return None;
+        }
+        bytes = bytes.checked_add(slot_size(of.size))?;
     }
     Some(bytes)
-}
-
-/// The bytes of a slot: each begins 16 bytes behind the one before it, at a multiple of 16.
-fn slot_bytes(size: u64) -> Option<u64>
-    ensures { IfSome result (λ n. n ≡ round_up size 16 + 16) }
-{
-    let last = size.checked_add(15)?;
-    (last / 16 * 16).checked_add(16)
 }

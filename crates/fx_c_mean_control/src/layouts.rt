@@ -3,7 +3,8 @@
 ghost use Rattle.std.specs.Prelude.{◌≡◌, IfSome, take, slice_index_or};
 ghost use Rattle.fx_c_ast.specs.CheckedTrees.{VoidTy, ty_tree, member_types};
 ghost use Rattle.fx_c_ast.specs.Layout.{type_layout, round_up, members_end, greatest_align, members_layout};
-ghost use Rattle.fx_c_mean_control.specs.Tables.{looked_up, member_place};
+ghost use Rattle.fx_c_ast.specs.Members.{member_place};
+ghost use Rattle.fx_c_mean_control.specs.Tables.{looked_up};
 
 use fx_c_ast::checked::{TMember, Ty};
 use fx_c_ast::layout::Layout;

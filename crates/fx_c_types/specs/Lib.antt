@@ -1,6 +1,4 @@
 pub mod Answers
 pub mod Programs
 pub mod ProgramView
-pub mod Frames
-pub mod Held
-pub mod Needs
+pub mod WellTyped

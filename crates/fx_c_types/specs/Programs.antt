@@ -12,8 +12,9 @@ use Rattle.fx_c_types_rules.specs.declared.category.Category.TheVariants.{Nothin
 use Rattle.fx_c_types_rules.specs.Types.{category}
 use Rattle.fx_c_types_rules.specs.Structs as plain
 use Rattle.fx_c_types_rules.specs.Structs.{place_32}
-use Rattle.fx_c_types_rules.specs.Locals.{LocalTree}
-use Rattle.fx_c_types.specs.Frames.{frame_size}
+use Rattle.fx_c_types_rules.specs.Locals.{LocalTree, types_of_locals}
+use Rattle.fx_c_ast.specs.StackUse.{frame_size}
+use Rattle.fx_c_types_heads.specs.Sizes.{known}
 use Rattle.fx_c_types_heads.specs.Heads.{HeadsTree, GlobalHead, FunctionHead, no_heads, head}
 use Rattle.fx_c_types.specs.declared.fault.TypeError.{TypeError}
 use Rattle.fx_c_types.specs.declared.fault.TypeError.TheVariants.{Rule, OutOfMemory}
@@ -105,7 +106,7 @@ with_function b literals f = record b { literals = literals; functions = b.funct
 -- a body that is checked: its frame has to be short enough
 abbrev pub finished : HeadsTree → BodiesTree → FunctionHead → (TStmtTrees × BodyTree) → Checked BodiesTree
 finished h b f x =
-    demand (nat_le (frame_size h.layouts x.1.locals x.0) 65536) FrameTooLong
+    demand (nat_le (frame_size (known h.layouts) (types_of_locals x.1.locals) x.0) 65536) FrameTooLong
     (Ok (with_function b x.1.literals (function_of f x.1.locals x.0)))
 
 abbrev pub scope_of : HeadsTree → BodiesTree → FunctionHead → ScopeTree

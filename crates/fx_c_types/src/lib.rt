@@ -3,7 +3,6 @@
 
 pub mod fault;
 pub mod frame;
-pub mod need;
 pub mod program;
 
 pub use fault::TypeError;

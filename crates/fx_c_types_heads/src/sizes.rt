@@ -2,27 +2,15 @@
 
 ghost use Rattle.std.specs.Prelude.{◌≡◌, ◌<◌, ◌≤◌, IsTrue, MatchOption};
 ghost use Rattle.fx_c_ast.specs.CheckedTrees.{ty_tree, member_types};
-ghost use Rattle.fx_c_ast.specs.Layout.{integer_size, round_up, type_layout, members_layout};
+ghost use Rattle.fx_c_ast.specs.Layout.{type_layout, members_layout};
 ghost use Rattle.fx_c_types_heads.specs.Written.{has_elements};
 ghost use Rattle.fx_c_types_heads.specs.Sizes.{known, AreKnown, all_have_elements};
 
 use fx_c_ast::checked::{TMember, Ty};
-use fx_c_ast::layout::Layout;
-use fx_c_ast::operator::IntType;
+use fx_c_ast::layout::{Layout, integer_size, next_multiple};
 
 /// The most bytes that a type may have.
 pub const LARGEST: u64 = 67108864;
-
-fn integer_size(i: IntType) -> u64
-    ensures { result ≡ integer_size i }
-{
-    match i {
-        IntType::Char | IntType::Uchar => 1,
-        IntType::Short | IntType::Ushort => 2,
-        IntType::Int | IntType::Uint => 4,
-        IntType::Long | IntType::Ulong => 8,
-    }
-}
 
 fn struct_layout(layouts: &[Layout], n: u32) -> Layout
     ensures { result ≡ known layouts.now n }
@@ -59,16 +47,6 @@ pub fn layout_within(layouts: &[Layout], t: &Ty) -> Option<Layout>
             })
         }
     }
-}
-
-// The next multiple of an alignment.
-fn next_multiple(at: u64, align: u64) -> u64
-    requires small { at ≤ 67108864 }
-    requires positive { 1 ≤ align }
-    requires bounded { align ≤ 8 }
-    ensures { result ≡ round_up at align }
-{
-    (at + (align - 1)) / align * align
 }
 
 /// The layout of a struct that has at most 67,108,864 bytes.

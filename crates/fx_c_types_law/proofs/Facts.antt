@@ -16,20 +16,18 @@ use Rattle.fx_c_ast.specs.declared.checked.TGlobal.{TGlobal}
 use Rattle.fx_c_ast.specs.declared.checked.TLocal.{TLocal}
 use Rattle.fx_c_ast.specs.declared.checked.TFunction.{TFunction}
 use Rattle.fx_c_ast.specs.declared.checked.TProgram.{TProgram}
-use Rattle.fx_c_ast.specs.CheckedTrees.{TyTree, VoidTy, IntTy, ArrayTy, ty_tree, tstmt_trees, member_types, struct_types}
-use Rattle.fx_c_ast.specs.Layout.{type_layout, known_layouts, round_up, IsSized, StructsAreSized}
-use Rattle.fx_c_ast.specs.StackUse as stack
-use Rattle.fx_c_ast.specs.StackUse.{need_stmts, fs}
+use Rattle.fx_c_ast.specs.CheckedTrees.{TyTree, VoidTy, IntTy, ArrayTy, ty_tree, tstmt_trees, member_types, local_types, struct_types}
+use Rattle.fx_c_ast.specs.Layout.{type_layout, known_layouts, IsSized, StructsAreSized}
+use Rattle.fx_c_ast.specs.StackUse.{need_stmts, slot_size, slots_size, frame_bytes}
 use Rattle.fx_c_ast.proofs.Layouts.{size_small, types_length}
 use Rattle.fx_c_types_rules.specs.Structs as plain
-use Rattle.fx_c_types_rules.specs.Locals.{LocalTree, local_trees}
+use Rattle.fx_c_types_rules.specs.Locals.{LocalTree, local_trees, types_of_locals}
 use Rattle.fx_c_types_heads.specs.Sizes.{known}
 use Rattle.fx_c_types_rules.specs.Types.{category}
 use Rattle.fx_c_types_heads.specs.Heads.{GlobalHead, FunctionHead, is_initial}
 use Rattle.fx_c_types_bodies.specs.Bodies.{place_16}
 use Rattle.fx_c_types_heads.specs.HeadsView.{global_tree, global_heads}
 use Rattle.fx_c_types_heads.proofs.Fields.{types_are, length-struct_trees}
-use Rattle.fx_c_types.specs.Frames.{slots_size}
 use Rattle.fx_grants.specs.declared.grants.Grants.{Grants}
 use Rattle.fx_shadow.specs.Frames.{HasFrame, HasFrames}
 use Rattle.fx_sections.specs.Initials.{before_used, used_bytes, initial_bytes}
@@ -38,8 +36,8 @@ use Rattle.fx_c_types.specs.Programs as program
 use Rattle.fx_c_types.specs.Programs.{ProgramTree, has_none, gives_status}
 use Rattle.fx_c_types.specs.ProgramView.{declarations, function_tree, function_trees, program_tree}
 use Rattle.fx_c_types.specs.declared.program.SourceFile.{SourceFile}
-use Rattle.fx_c_types_law.specs.Jumps.{all_inside}
-use Rattle.fx_c_types_law.specs.WellTyped.{WellTyped}
+use Rattle.fx_c_types_model.specs.Jumps.{all_inside}
+use Rattle.fx_c_types.specs.WellTyped.{WellTyped}
 use Rattle.fx_c_types_law.proofs.Known.{Agree, Describes, type_same, sized_same, table_is, structs_sized}
 use Rattle.fx_c_types_law.proofs.Ends.{Ends}
 use Rattle.fx_c_types_law.proofs.Heads.{all_types, IsSizedLocal, IsSizedGlobal}
@@ -77,12 +75,12 @@ locals_all P (l ∷ ls) all =
     All-cons (λ l. P (tree_of l)) l ls (All-head P (tree_of l) (local_trees ls) all) (locals_all P ls (All-tail P (tree_of l) (local_trees ls) all))
 
 -- slots are as long by a table of layouts as by the structs' own
-slots_same : (layouts : List Layout) (tss : List (List TyTree)) (bound : ℕ) → Agree (known layouts) (known_layouts tss) bound → (ls : List TLocal) → All (IsSizedLocal layouts bound) (local_trees ls) → slots_size layouts (local_trees ls) ≡ stack.slots_size tss ls
+slots_same : (layouts : List Layout) (tss : List (List TyTree)) (bound : ℕ) → Agree (known layouts) (known_layouts tss) bound → (ls : List TLocal) → All (IsSizedLocal layouts bound) (local_trees ls) → slots_size (known layouts) (types_of_locals (local_trees ls)) ≡ slots_size (known_layouts tss) (local_types ls)
 slots_same layouts tss bound same [] all = refl
 slots_same layouts tss bound same (l ∷ ls) all =
     let sized : IsSized (known layouts) bound (ty_tree l.ty) = All-head (IsSizedLocal layouts bound) (record { shared = l.shared; ty = ty_tree l.ty }) (local_trees ls) all in
-    ap (λ (x : Layout). round_up x.size 16 + 16 + slots_size layouts (local_trees ls)) (type_same (known layouts) (known_layouts tss) (known layouts) bound same (ty_tree l.ty) sized)
-    ∙ ap (λ n. round_up (type_layout (known_layouts tss) (ty_tree l.ty)).size 16 + 16 + n) (slots_same layouts tss bound same ls (All-tail (IsSizedLocal layouts bound) (record { shared = l.shared; ty = ty_tree l.ty }) (local_trees ls) all))
+    ap (λ (x : Layout). slot_size x.size + slots_size (known layouts) (types_of_locals (local_trees ls))) (type_same (known layouts) (known_layouts tss) (known layouts) bound same (ty_tree l.ty) sized)
+    ∙ ap (λ n. slot_size (type_layout (known_layouts tss) (ty_tree l.ty)).size + n) (slots_same layouts tss bound same ls (All-tail (IsSizedLocal layouts bound) (record { shared = l.shared; ty = ty_tree l.ty }) (local_trees ls) all))
 
 pub accepted_is : (files : List SourceFile) (p : TProgram) → WellTyped files p → IsAccepted (length (declarations files)) (program_tree p)
 accepted_is files p is = subst (λ r. Ends (IsAccepted (length (declarations files))) r) is (accepted (declarations files))
@@ -124,12 +122,12 @@ module _ (p : TProgram) (count : ℕ) (has : IsAccepted count (program_tree p)) 
   frame_of : (f : TFunction) → HasFrameIn has.heads (function_tree f) → HasFrame p.structs f
   frame_of f frame =
       let sized : All (IsSizedLocal has.heads.layouts (length p.structs)) (local_trees f.locals) = subst (λ n. All (IsSizedLocal has.heads.layouts n) (local_trees f.locals)) counted frame.sized in
-      let slots : slots_size has.heads.layouts (local_trees f.locals) ≡ stack.slots_size (struct_types p.structs) f.locals = slots_same has.heads.layouts (struct_types p.structs) (length p.structs) same f.locals sized in
+      let slots : slots_size (known has.heads.layouts) (types_of_locals (local_trees f.locals)) ≡ slots_size (known_layouts (struct_types p.structs)) (local_types f.locals) = slots_same has.heads.layouts (struct_types p.structs) (length p.structs) same f.locals sized in
       record {
         sized = All-weaker (λ (l : TLocal). IsSized (known has.heads.layouts) (length p.structs) (ty_tree l.ty)) (λ (l : TLocal). IsSized (known_layouts (struct_types p.structs)) (length p.structs) (ty_tree l.ty))
             (λ l small. sized_same (known has.heads.layouts) (known_layouts (struct_types p.structs)) (length p.structs) same (ty_tree l.ty) small) f.locals
             (locals_all (IsSizedLocal has.heads.layouts (length p.structs)) f.locals sized);
-        small = subst (λ n. 16 + n + 8 * round_up (need_stmts (tstmt_trees f.body.items)) 2 ≤ 65536) slots frame.small;
+        small = subst (λ n. frame_bytes n (need_stmts (tstmt_trees f.body.items)) ≤ 65536) slots frame.small;
       }
 
   pub framed : HasFrames p

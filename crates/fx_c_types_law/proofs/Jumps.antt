@@ -11,7 +11,7 @@ use Rattle.fx_c_types_rules.specs.Structs.{place_32}
 use Rattle.fx_c_types_heads.specs.Written.{ty_of}
 use Rattle.fx_c_types_heads.specs.Heads.{object_type}
 use Rattle.fx_c_types_bodies.specs.Bodies.{ScopeTree, BodyTree, typed, innermost, entered, left, with_local, with_name, started, assigned_start, declared_local, place_16, returned, maybe_typed, maybe_condition, return_node, followed, checked, checked_maybe, checked_all}
-use Rattle.fx_c_types_law.specs.Jumps.{jumps_inside, maybe_inside, all_inside}
+use Rattle.fx_c_types_model.specs.Jumps.{jumps_inside, maybe_inside, all_inside}
 use Rattle.fx_c_types_law.proofs.Ends.{Ends, bind_ends, demand_ends}
 
 abbrev Inside : Bool → (TStmtTree × BodyTree) → Type 0

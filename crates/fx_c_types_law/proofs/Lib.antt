@@ -5,5 +5,3 @@ pub mod Bodies
 pub mod Jumps
 pub mod Programs
 pub mod Facts
-pub mod Tells
-pub mod Judged

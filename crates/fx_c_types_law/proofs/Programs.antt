@@ -9,7 +9,8 @@ use Rattle.fx_c_ast.specs.ParsedTrees.{ParamTree, DeclTree, StructTree, GlobalTr
 use Rattle.fx_c_ast.specs.CheckedTrees.{TStmtTrees, NoTStmts}
 use Rattle.fx_c_ast.proofs.Layouts.{more_bound}
 use Rattle.fx_c_types_rules.specs.declared.fault.TypeKind.TheVariants.{FrameTooLong, NoMain}
-use Rattle.fx_c_types.specs.Frames.{frame_size}
+use Rattle.fx_c_types_rules.specs.Locals.{types_of_locals}
+use Rattle.fx_c_ast.specs.StackUse.{frame_size}
 use Rattle.fx_c_types_heads.specs.Names.{found}
 use Rattle.fx_c_types_heads.specs.Sizes.{known}
 use Rattle.fx_c_types_heads.specs.Heads.{HeadsTree, FunctionHead, no_heads, head}
@@ -18,7 +19,7 @@ use Rattle.fx_c_types.specs.Programs as program
 use Rattle.fx_c_types.specs.Programs.{PlacedDecl, ProgramTree, at_declaration, ◌>>>◌, tags_of, heads_of, body_from, BodiesTree, no_bodies, function_of, with_function, finished, scope_of, function_body, next_body, body_of, bodies_of, is_start, main_at, main_of, main_number, program_of, well_typed}
 use Rattle.fx_c_types_law.proofs.Ends.{Ends, bind_ends, then_ends, demand_ends, at_ends, weaker, both_end}
 use Rattle.fx_c_types_law.proofs.Heads.{IsSizedLocal, HasScalars, IsSound, none_sound, structs_in, functions_in, Follows, head_ends}
-use Rattle.fx_c_types_law.specs.Jumps.{all_inside}
+use Rattle.fx_c_types_model.specs.Jumps.{all_inside}
 use Rattle.fx_c_types_law.proofs.Jumps.{all_checked_inside}
 use Rattle.fx_c_types_law.proofs.Bodies.{IsText, IsFine, all_fine}
 
@@ -67,7 +68,7 @@ heads_end n h (d ∷ ds) is =
 
 pub record HasFrameIn (h : HeadsTree) (f : program.FunctionTree) : Type 0 where
   pub sized : All (IsSizedLocal h.layouts (length h.structs)) f.locals
-  pub small : frame_size h.layouts f.locals f.body ≤ 65536
+  pub small : frame_size (known h.layouts) (types_of_locals f.locals) f.body ≤ 65536
   pub few : f.params ≤ 6
   pub inside : all_inside false f.body ≡ true
 
@@ -99,9 +100,9 @@ there (x ∷ fs) (suc n) less is = there fs n (omega arith) is
 finished_ends : (h : HeadsTree) (b : BodiesTree) (f : FunctionHead) (x : TStmtTrees × BodyTree) → HasBodies h b → HasScalars h.layouts f → slice_get h.functions (length b.functions) ≡ Some f → IsFine (scope_of h b f) x.1 → all_inside false x.0 ≡ true → Ends (HasNext h b 0 1) (finished h b f x)
 finished_ends h b f x has scalars at fine inside =
     let made : program.FunctionTree = function_of f x.1.locals x.0 in
-    demand_ends (HasNext h b 0 1) (nat_le (frame_size h.layouts x.1.locals x.0) 65536) FrameTooLong (Ok (with_function b x.1.literals made)) (λ short.
+    demand_ends (HasNext h b 0 1) (nat_le (frame_size (known h.layouts) (types_of_locals x.1.locals) x.0) 65536) FrameTooLong (Ok (with_function b x.1.literals made)) (λ short.
     let few : place_16 (length f.params) ≤ length f.params = min-le_left (length f.params) 65535 in
-    let frame : HasFrameIn h made = record { sized = fine.0; small = leb-true (frame_size h.layouts x.1.locals x.0) 65536 short; few = omega (arith, scalars.1); inside = inside } in
+    let frame : HasFrameIn h made = record { sized = fine.0; small = leb-true (frame_size (known h.layouts) (types_of_locals x.1.locals) x.0) 65536 short; few = omega (arith, scalars.1); inside = inside } in
     record {
       bodies = record { functions = All-push (HasFrameIn h) b.functions made has.functions frame; literals = fine.1; heads = more_heads made (refl, refl) };
       declared = omega arith;

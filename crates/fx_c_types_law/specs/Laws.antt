@@ -9,8 +9,8 @@ use Rattle.fx_shadow.specs.Frames.{HasFrames}
 use Rattle.fx_grants.specs.declared.grants.Grants.{Grants}
 use Rattle.fx_sections.specs.Placement.{IsPlaceable}
 use Rattle.fx_c_types.specs.declared.program.SourceFile.{SourceFile}
-use Rattle.fx_c_types_law.specs.Jumps.{all_inside}
-use Rattle.fx_c_types_law.specs.WellTyped.{WellTyped}
+use Rattle.fx_c_types_model.specs.Jumps.{all_inside}
+use Rattle.fx_c_types.specs.WellTyped.{WellTyped}
 use Rattle.fx_c_types.specs.Programs.{gives_status}
 use Rattle.fx_c_types.specs.ProgramView.{declarations}
 

@@ -1,3 +1,1 @@
-pub mod Jumps
-pub mod WellTyped
 pub mod Laws

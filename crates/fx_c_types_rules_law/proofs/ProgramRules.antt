@@ -8,9 +8,10 @@ use Rattle.fx_c_ast.specs.ParsedTrees as parsed
 use Rattle.fx_c_ast.specs.CheckedTrees.{TyTree, VoidTy, IntTy}
 use Rattle.fx_c_types_heads.specs.Names.{found}
 use Rattle.fx_c_types_rules.specs.Types.{category}
-use Rattle.fx_c_types_rules.specs.Locals.{LocalTree}
+use Rattle.fx_c_types_rules.specs.Locals.{LocalTree, types_of_locals}
 use Rattle.fx_c_types_heads.specs.Heads.{HeadsTree, FunctionHead, no_heads}
-use Rattle.fx_c_types.specs.Frames.{frame_size}
+use Rattle.fx_c_types_heads.specs.Sizes.{known}
+use Rattle.fx_c_ast.specs.StackUse.{frame_size}
 use Rattle.fx_c_types.specs.Programs.{PlacedDecl, ProgramTree, BodiesTree, tags_of, heads_of, body_from, no_bodies, function_of, scope_of, function_body, body_of, bodies_of, gives_status, has_none, main_at, main_of, main_number, well_typed}
 use Rattle.fx_c_types_rules_law.proofs.Ends.{Ends, answered, refused, bind_ends, demand_ends, map_ends, bind_ok, demand_ok}
 use Rattle.fx_c_types_rules_law.proofs.StatementRules.{body_is, body_holds}
@@ -22,22 +23,22 @@ use Rattle.fx_c_types_rules_law.proofs.HeadRules.{head_is, head_holds}
 
 -- ---- heads
 
-heads_are : (n : ℕ) (h : HeadsTree) (ds : List PlacedDecl) → Ends (AreHeads h ds) (heads_of n h ds)
+pub heads_are : (n : ℕ) (h : HeadsTree) (ds : List PlacedDecl) → Ends (AreHeads h ds) (heads_of n h ds)
 heads_are n h [] = answered no_heads_more
 heads_are n h (d ∷ ds) = then_ends _ _ (at_ends n _ (head_is h d.library d.decl)) (λ g is. map_ends _ (heads_are (n + 1) g ds) (λ k more. one_head is more))
 
-heads_hold : {h g : HeadsTree} {ds : List PlacedDecl} (n : ℕ) → AreHeads h ds g → heads_of n h ds ≡ Ok g
+pub heads_hold : {h g : HeadsTree} {ds : List PlacedDecl} (n : ℕ) → AreHeads h ds g → heads_of n h ds ≡ Ok g
 heads_hold n no_heads_more = refl
 heads_hold n (one_head {h} {g} {k} {d} {ds} is more) = then_ok _ _ _ _ (at_ok n _ _ (head_holds is)) (heads_hold (n + 1) more)
 
 -- ---- how many functions there are
 
-abbrev functions_in : DeclTree → ℕ
+abbrev pub functions_in : DeclTree → ℕ
 functions_in (StructTree name members) = 0
 functions_in (GlobalTree grant readers t name init) = 0
 functions_in (parsed.FunctionTree entry t name params body) = 1
 
-abbrev function_count : List PlacedDecl → ℕ
+abbrev pub function_count : List PlacedDecl → ℕ
 function_count [] = 0
 function_count (d ∷ ds) = functions_in d.decl + function_count ds
 
@@ -47,7 +48,7 @@ one_more (global_head {h} new is given) = omega arith
 one_more (function_head {h} {library} {entry} {t} {ty} {name} {params} {ps} new distinct m result are few) =
     length-append h.functions (record { library = library; entry = entry; answer = ty; name = name; params = ps } ∷ [])
 
-all_counted : {h g : HeadsTree} {ds : List PlacedDecl} → AreHeads h ds g → length g.functions ≡ length h.functions + function_count ds
+pub all_counted : {h g : HeadsTree} {ds : List PlacedDecl} → AreHeads h ds g → length g.functions ≡ length h.functions + function_count ds
 all_counted no_heads_more = omega arith
 all_counted (one_head {h} {g} {k} {d} {ds} is more) = omega (arith, one_more is, all_counted more)
 
@@ -65,7 +66,7 @@ Adds h b d c = MeansBody h b d c × (length c.functions ≡ length b.functions +
 function_is : (h : HeadsTree) (b : BodiesTree) (entry : Bool) (t : TypeTree) (name : List ℕ) (params : List ParamTree) (body : StmtTrees) (f : FunctionHead) → slice_get h.functions (length b.functions) ≡ Some f → Ends (Adds h b (parsed.FunctionTree entry t name params body)) (function_body h b (Some f) params body)
 function_is h b entry t name params body f is =
     bind_ends _ _ (body_is (scope_of h b f) (body_from b.literals f params) body) (λ x means. demand_ends _ _ _ (λ short.
-    answered (judged.function_body is means (leb-true (frame_size h.layouts x.1.locals x.0) 65536 short), length-append b.functions (function_of f x.1.locals x.0 ∷ []))))
+    answered (judged.function_body is means (leb-true (frame_size (known h.layouts) (types_of_locals x.1.locals) x.0) 65536 short), length-append b.functions (function_of f x.1.locals x.0 ∷ []))))
 
 body_of_is : (h : HeadsTree) (b : BodiesTree) (d : DeclTree) → length b.functions + functions_in d ≤ length h.functions → Ends (Adds h b d) (body_of h b d)
 body_of_is h b (StructTree name members) fits = answered (judged.struct_declared, omega arith)
@@ -74,7 +75,7 @@ body_of_is h b (parsed.FunctionTree entry t name params body) fits =
     let f = some_at h.functions (length b.functions) (omega arith) in
     rw f.1 (function_is h b entry t name params body f.0 f.1)
 
-bodies_are : (n : ℕ) (h : HeadsTree) (b : BodiesTree) (ds : List PlacedDecl) → length b.functions + function_count ds ≤ length h.functions → Ends (AreBodies h b ds) (bodies_of n h b ds)
+pub bodies_are : (n : ℕ) (h : HeadsTree) (b : BodiesTree) (ds : List PlacedDecl) → length b.functions + function_count ds ≤ length h.functions → Ends (AreBodies h b ds) (bodies_of n h b ds)
 bodies_are n h b [] fits = answered no_more_bodies
 bodies_are n h b (d ∷ ds) fits =
     then_ends _ _ (at_ends n _ (body_of_is h b d.decl (omega arith))) (λ c is. map_ends _ (bodies_are (n + 1) h c ds (omega (arith, is.1))) (λ e more. one_body is.0 more))
@@ -84,9 +85,9 @@ body_of_holds judged.struct_declared = refl
 body_of_holds judged.global_declared = refl
 body_of_holds (judged.function_body {h} {b} {entry} {t} {name} {params} {body} {f} {ts} {c} is means short) =
     ap (λ r. function_body h b r params body) is
-    ∙ bind_ok _ _ _ _ (body_holds means) (demand_ok _ _ _ _ (le-leb (frame_size h.layouts c.locals ts) 65536 short) refl)
+    ∙ bind_ok _ _ _ _ (body_holds means) (demand_ok _ _ _ _ (le-leb (frame_size (known h.layouts) (types_of_locals c.locals) ts) 65536 short) refl)
 
-bodies_hold : {h : HeadsTree} {b c : BodiesTree} {ds : List PlacedDecl} (n : ℕ) → AreBodies h b ds c → bodies_of n h b ds ≡ Ok c
+pub bodies_hold : {h : HeadsTree} {b c : BodiesTree} {ds : List PlacedDecl} (n : ℕ) → AreBodies h b ds c → bodies_of n h b ds ≡ Ok c
 bodies_hold n no_more_bodies = refl
 bodies_hold n (one_body {h} {b} {c} {e} {d} {ds} is more) = then_ok _ _ _ _ (at_ok n _ _ (body_of_holds is)) (bodies_hold (n + 1) more)
 
@@ -115,10 +116,10 @@ main_of_is : (h : HeadsTree) (r : Option ℕ) → found (codes "main") h.functio
 main_of_is h None is = refused
 main_of_is h (Some n) is = main_at_is h n (slice_get h.functions n) is refl
 
-main_is : (h : HeadsTree) → Ends (IsMain h) (main_number h)
+pub main_is : (h : HeadsTree) → Ends (IsMain h) (main_number h)
 main_is h = main_of_is h (found (codes "main") h.function_names) refl
 
-main_holds : {h : HeadsTree} {n : ℕ} → IsMain h n → main_number h ≡ Ok n
+pub main_holds : {h : HeadsTree} {n : ℕ} → IsMain h n → main_number h ≡ Ok n
 main_holds (main_function {h} {n} {f} is at none status) =
     ap (main_of h) is ∙ ap (λ r. main_at r n) at
     ∙ demand_ok _ _ _ _ (and_from (has_none f.params) (gives_status (category f.answer)) (ap has_none none) (status_holds status)) refl

@@ -9,7 +9,9 @@ use Rattle.fx_c_ast.specs.CheckedTrees.{TyTree, VoidTy, IntTy, TStmtTrees}
 use Rattle.fx_c_types_heads.specs.Names.{found}
 use Rattle.fx_c_types_rules.specs.Structs.{place_32}
 use Rattle.fx_c_types_heads.specs.Heads.{HeadsTree, FunctionHead, no_heads}
-use Rattle.fx_c_types.specs.Frames.{frame_size}
+use Rattle.fx_c_types_rules.specs.Locals.{types_of_locals}
+use Rattle.fx_c_types_heads.specs.Sizes.{known}
+use Rattle.fx_c_ast.specs.StackUse.{frame_size}
 use Rattle.fx_c_types_bodies.specs.Bodies.{BodyTree}
 use Rattle.fx_c_types.specs.Programs.{PlacedDecl, ProgramTree, BodiesTree, tags_of, body_from, no_bodies, function_of, with_function, scope_of, program_of}
 use Rattle.fx_c_types_rules_law.specs.Statements.{MeanStatements}
@@ -28,7 +30,7 @@ pub data MeansBody : HeadsTree → BodiesTree → DeclTree → BodiesTree → Ty
   global_declared : {h : HeadsTree} {b : BodiesTree} {grant readers : Grant} {t : TypeTree} {name : List ℕ} {init : Init} → MeansBody h b (GlobalTree grant readers t name init) b
   function_body : {h : HeadsTree} {b : BodiesTree} {entry : Bool} {t : TypeTree} {name : List ℕ} {params : List ParamTree} {body : StmtTrees} {f : FunctionHead} {ts : TStmtTrees} {c : BodyTree}
       → slice_get h.functions (length b.functions) ≡ Some f → MeanStatements (scope_of h b f) false (body_from b.literals f params) body ts c
-      → frame_size h.layouts c.locals ts ≤ 65536
+      → frame_size (known h.layouts) (types_of_locals c.locals) ts ≤ 65536
       → MeansBody h b (parsed.FunctionTree entry t name params body) (with_function b c.literals (function_of f c.locals ts))
 
 pub data AreBodies : HeadsTree → BodiesTree → List PlacedDecl → BodiesTree → Type 0 where

@@ -17,7 +17,7 @@ use Rattle.fx_c_types_heads.specs.Written.{ty_of, is_named}
 use Rattle.fx_c_types_heads.specs.Heads.{object_type}
 use Rattle.fx_c_types_bodies.specs.Bodies.{ScopeTree, BodyTree, then_in, variable, text_node, cast_type, cast_node, size_of_type, callee, call, gate, spawn, typed, typed_all, innermost, entered, left, with_local, with_name, started, assigned_start, declared_local, local, place_16, returned, maybe_typed, maybe_condition, return_node, followed, checked, checked_maybe, checked_all}
 use Rattle.fx_c_types_law.proofs.Ends.{Ends, bind_ends, demand_ends}
-use Rattle.fx_c_types_texts_law.specs.Each.{Each, EachOfAll, EachOfValue, EachIn, EachInMaybe, EachInAll}
+use Rattle.fx_c_types_model.specs.Each.{Each, EachOfAll, EachOfValue, EachIn, EachInMaybe, EachInAll}
 use Rattle.fx_c_types_texts_law.proofs.Trees.{IsBare, IsDeclared, Written, AllWritten, ValueWritten, WrittenIn, WrittenInMaybe, WrittenInAll}
 use Rattle.fx_c_types_texts_law.proofs.Nodes.{Good, AreClosed, AllLocals, AllGlobals, AllStructs, AllFunctions, any, type_good, converted_good, value_good, condition_good, assigned_good, unary_good, binary_good, element_good, cast_good, member_good, arrow_good, variable_good, joined_good, call_good, gate_good, spawn_good, putc_good, store_good, switch_good}
 

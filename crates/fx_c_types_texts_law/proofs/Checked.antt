@@ -24,7 +24,9 @@ use Rattle.fx_c_types_rules.specs.Calls.{joined, putc, device_store, switch}
 use Rattle.fx_c_types_heads.specs.Written.{ty_of}
 use Rattle.fx_c_types_heads.specs.Heads.{HeadsTree, FunctionHead, object_type, no_heads, is_next, repeats, names_of, members_behind, struct_layout, with_struct, struct_head, is_declared, is_initial, with_global, global_head, is_answer, are_params, param_names, params_of, function_head, head}
 use Rattle.fx_c_types_heads.specs.Heads as heads
-use Rattle.fx_c_types.specs.Frames.{frame_size}
+use Rattle.fx_c_types_rules.specs.Locals.{types_of_locals}
+use Rattle.fx_c_types_heads.specs.Sizes.{known}
+use Rattle.fx_c_ast.specs.StackUse.{frame_size}
 use Rattle.fx_c_types_bodies.specs.Bodies.{ScopeTree, BodyTree, then_in, variable, text_node, cast_node, size_of_type, callee, call, gate, spawn, typed, typed_all, innermost, entered, left, with_local, with_name, started, assigned_start, declared_local, local, place_16, returned, maybe_typed, maybe_condition, return_node, followed, checked, checked_maybe, checked_all}
 use Rattle.fx_c_types.specs.declared.fault.TypeError.{TypeError}
 use Rattle.fx_c_types.specs.declared.program.SourceFile.{SourceFile}
@@ -264,7 +266,7 @@ Gains b n m c = (length c.literals ≡ length b.literals + n) × (length c.funct
 finished_gains : (h : HeadsTree) (b : BodiesTree) (f : FunctionHead) (n : ℕ) (r : Checked (TStmtTrees × BodyTree)) → Ends (λ (x : TStmtTrees × BodyTree). length x.1.literals ≡ length b.literals + n) r → Ends (Gains b n 1) (r >>= (λ x. finished h b f x))
 finished_gains h b f n (Ok x) adds =
     let made : FunctionTree = function_of f x.1.locals x.0 in
-    demands (Gains b n 1) (nat_le (frame_size h.layouts x.1.locals x.0) 65536) FrameTooLong (Ok (with_function b x.1.literals made)) (adds, length_push b.functions made)
+    demands (Gains b n 1) (nat_le (frame_size (known h.layouts) (types_of_locals x.1.locals) x.0) 65536) FrameTooLong (Ok (with_function b x.1.literals made)) (adds, length_push b.functions made)
 finished_gains h b f n (Err e) adds = tt
 
 there : (fs : List FunctionHead) (n : ℕ) → n < length fs → slice_get fs n ≡ None → ⊥

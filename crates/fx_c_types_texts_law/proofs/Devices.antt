@@ -16,10 +16,10 @@ use Rattle.fx_c_types.specs.declared.fault.TypeError.{TypeError}
 use Rattle.fx_c_types.specs.declared.program.SourceFile.{SourceFile}
 use Rattle.fx_c_types.specs.Programs.{PlacedDecl, tags_of, heads_of}
 use Rattle.fx_c_types.specs.ProgramView.{declarations}
-use Rattle.fx_c_types_law.specs.WellTyped.{WellTyped}
+use Rattle.fx_c_types.specs.WellTyped.{WellTyped}
 use Rattle.fx_c_types_law.proofs.Ends.{Ends, demand_ends}
-use Rattle.fx_c_types_texts_law.specs.Each.{EachInAll}
-use Rattle.fx_c_types_texts_law.specs.Fits.{DeviceFits}
+use Rattle.fx_c_types_model.specs.Each.{EachInAll}
+use Rattle.fx_c_types_model.specs.Fits.{DeviceFits}
 use Rattle.fx_c_types_texts_law.specs.Texts.{AreFilesOf}
 use Rattle.fx_c_types_texts_law.proofs.Nodes.{Good, AllLocals, AllGlobals, AllMembers, AllStructs, AllFunctions}
 use Rattle.fx_c_types_texts_law.proofs.Programs.{struct_count, files_written, KnowsHeads, functions_good}

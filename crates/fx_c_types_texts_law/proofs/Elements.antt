@@ -10,10 +10,10 @@ use Rattle.fx_c_types_rules.specs.Structs as plain
 use Rattle.fx_c_types_heads.proofs.Fields.{types_are}
 use Rattle.fx_c_types.specs.declared.program.SourceFile.{SourceFile}
 use Rattle.fx_c_types.specs.ProgramView.{declarations}
-use Rattle.fx_c_types_law.specs.WellTyped.{WellTyped}
+use Rattle.fx_c_types.specs.WellTyped.{WellTyped}
 use Rattle.fx_c_types_law.proofs.Heads.{all_types}
-use Rattle.fx_c_types_texts_law.specs.Each.{EachInAll}
-use Rattle.fx_c_types_texts_law.specs.Fits.{Elements, HasElementSize, ElementFits}
+use Rattle.fx_c_types_model.specs.Each.{EachInAll}
+use Rattle.fx_c_types_model.specs.Fits.{Elements, HasElementSize, ElementFits}
 use Rattle.fx_c_types_texts_law.specs.Texts.{AreFilesOf}
 use Rattle.fx_c_types_texts_law.proofs.Nodes.{Good}
 use Rattle.fx_c_types_texts_law.proofs.Programs.{AllPlaced, files_written, functions_good}

@@ -3,8 +3,8 @@ use Rattle.std.proofs.Common.{[], lit≤, arith}
 use Rattle.fx_c_ast.specs.declared.operator.IntType.TheVariants.{Int, Long}
 use Rattle.fx_c_ast.specs.declared.operator.Binop.TheVariants.{Add, Sub}
 use Rattle.fx_c_ast.specs.CheckedTrees.{VoidTy, IntTy, PtrTy, ArrayTy, ENumber, ELocal, EBin, EDevLoad, EDevStore}
-use Rattle.fx_c_types_texts_law.specs.Each.{Each}
-use Rattle.fx_c_types_texts_law.specs.Fits.{DeviceFits, HasElementSize, ElementFits}
+use Rattle.fx_c_types_model.specs.Each.{Each}
+use Rattle.fx_c_types_model.specs.Fits.{DeviceFits, HasElementSize, ElementFits}
 
 last_register : DeviceFits (EDevLoad (IntTy Long) 15 511)
 last_register = (lit≤ tt, lit≤ tt)

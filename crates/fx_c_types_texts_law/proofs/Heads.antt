@@ -24,7 +24,7 @@ use Rattle.fx_c_types.specs.Programs.{PlacedDecl, at_declaration, tags_of, heads
 use Rattle.fx_c_types_law.proofs.Ends.{Ends, bind_ends, then_ends, demand_ends, at_ends, weaker, both_end}
 use Rattle.fx_c_types_law.proofs.Known.{sized_same, table_is, structs_sized}
 use Rattle.fx_c_types_law.proofs.Heads.{all_types, length-all_types, IsSizedGlobal, IsSound, none_sound, Follows, head_ends, object_ends}
-use Rattle.fx_c_types_texts_law.specs.Fits.{HasElementSize}
+use Rattle.fx_c_types_model.specs.Fits.{HasElementSize}
 use Rattle.fx_c_types_texts_law.proofs.Trees.{IsBare, IsDeclared, AreMembers, AreSome, AreParameters, IsWritten}
 use Rattle.fx_c_types_texts_law.proofs.Nodes.{AllLocals, AllGlobals, AllMembers, AllStructs, AllFunctions}
 use Rattle.fx_c_types_texts_law.proofs.Programs.{struct_count, AllPlaced, KnowsHeads}
@@ -283,3 +283,10 @@ written_heads ds w =
     let none : HeadsTree = no_heads (tags_of [] ds) in
     weaker (HasAll none ds) (λ (h : HeadsTree). KnowsHeads (IsMeasured (known_layouts (all_types h.structs))) (HasElementSize (all_types h.structs)) (struct_count ds) h) (heads_of 0 none ds)
     (heads_well 0 none ds w (none_sound (tags_of [] ds)) (none_well (tags_of [] ds))) (λ h has. knows h has.sound has.well (struct_count ds) (omega (arith, has.structs)))
+
+-- each struct of a program has from 1 byte to 64 MiB
+pub structs_some : (ds : List PlacedDecl) → AllPlaced ds → Ends (λ (h : HeadsTree). (k : ℕ) → k < length (all_types h.structs) → (1 ≤ (known_layouts (all_types h.structs) k).size) × ((known_layouts (all_types h.structs) k).size ≤ 67108864)) (heads_of 0 (no_heads (tags_of [] ds)) ds)
+structs_some ds w =
+    let none : HeadsTree = no_heads (tags_of [] ds) in
+    weaker (HasAll none ds) (λ (h : HeadsTree). (k : ℕ) → k < length (all_types h.structs) → (1 ≤ (known_layouts (all_types h.structs) k).size) × ((known_layouts (all_types h.structs) k).size ≤ 67108864)) (heads_of 0 none ds)
+    (heads_well 0 none ds w (none_sound (tags_of [] ds)) (none_well (tags_of [] ds))) (λ h has k less. struct_sizes h has.sound has.well k less)

@@ -30,7 +30,7 @@ use Rattle.fx_c_types_heads.specs.Heads.{HeadsTree, GlobalHead, FunctionHead, no
 use Rattle.fx_c_types.specs.declared.program.SourceFile.{SourceFile}
 use Rattle.fx_c_types.specs.Programs.{PlacedDecl, ProgramTree, BodiesTree, at_declaration, ◌>>>◌, tags_of, heads_of, no_bodies, bodies_of, main_number, program_of, well_typed}
 use Rattle.fx_c_types.specs.ProgramView.{placed_in, declarations}
-use Rattle.fx_c_types_law.specs.WellTyped.{WellTyped}
+use Rattle.fx_c_types.specs.WellTyped.{WellTyped}
 use Rattle.fx_c_types_law.proofs.Ends.{Ends, bind_ends, then_ends, demand_ends, at_ends, weaker}
 use Rattle.fx_c_types_texts_law.specs.Texts.{AreFilesOf, bytes_of}
 use Rattle.fx_c_types_texts_law.proofs.Nodes.{any}

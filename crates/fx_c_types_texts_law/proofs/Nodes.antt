@@ -25,8 +25,8 @@ use Rattle.fx_c_types_rules.specs.Calls.{are_scalars, are_passed, passed, argume
 use Rattle.fx_c_types_heads.specs.Heads.{HeadsTree, GlobalHead, FunctionHead}
 use Rattle.fx_c_types_bodies.specs.Bodies.{BodyTree, type_or_void, global_or_void, global_node, variable_node, variable, local_named, function_named, CalleeTree, numbered, head_numbered, callee, call, gate, is_long, are_one_long, first_value, spawn}
 use Rattle.fx_c_types_law.proofs.Ends.{Ends, bind_ends, demand_ends}
-use Rattle.fx_c_types_texts_law.specs.Each.{Each, EachOfAll}
-use Rattle.fx_c_types_texts_law.specs.Fits.{IsDeviceRegister, DeviceFits, Behind, Elements}
+use Rattle.fx_c_types_model.specs.Each.{Each, EachOfAll}
+use Rattle.fx_c_types_model.specs.Fits.{IsDeviceRegister, DeviceFits, Behind, Elements}
 
 -- a node whose type is T, which counts elements of types that are E alone, and whose device is there
 abbrev pub Good : (TyTree → Type 0) → (TyTree → Type 0) → TExprTree → Type 0

@@ -8,12 +8,12 @@ use Rattle.fx_c_ast.specs.ParsedTrees.{decl_trees}
 use Rattle.fx_c_ast.specs.CheckedTrees.{tstmt_trees}
 use Rattle.fx_c_types.specs.declared.program.SourceFile.{SourceFile}
 use Rattle.fx_c_types.specs.ProgramView.{placed_in, declarations}
-use Rattle.fx_c_types_law.specs.WellTyped.{WellTyped}
+use Rattle.fx_c_types.specs.WellTyped.{WellTyped}
 use Rattle.fx_c_types_texts_law.specs.Strings.{program_strings}
 use Rattle.fx_c_types_texts_law.proofs.Checked.{literals_written}
 use Rattle.fx_c_types_texts_law.proofs.Written.{few_strings, strings-append, strings-placed}
-use Rattle.fx_c_types_trees_law.specs.Tables.{tables}
-use Rattle.fx_c_types_trees_law.specs.Trees.{AreRight}
+use Rattle.fx_c_types_model.specs.Tables.{tables}
+use Rattle.fx_c_types_model.specs.Trees.{AreRight}
 use Rattle.fx_c_types_trees_law.specs.Laws.{NumbersFit}
 use Rattle.fx_c_types_trees_law.proofs.Facts.{right_program, bodies_are_right}
 use Rattle.fx_c_types_texts_law.specs.Texts.{AreFilesOf, bytes_of}

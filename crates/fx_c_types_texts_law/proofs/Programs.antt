@@ -13,16 +13,18 @@ use Rattle.fx_c_types_rules.specs.Types.{is_complete}
 use Rattle.fx_c_types_rules.specs.Structs as plain
 use Rattle.fx_c_types_heads.specs.Written.{ty_of}
 use Rattle.fx_c_types_heads.specs.Heads.{HeadsTree, FunctionHead, no_heads, object_type}
-use Rattle.fx_c_types.specs.Frames.{frame_size}
+use Rattle.fx_c_types_rules.specs.Locals.{types_of_locals}
+use Rattle.fx_c_types_heads.specs.Sizes.{known}
+use Rattle.fx_c_ast.specs.StackUse.{frame_size}
 use Rattle.fx_c_types_bodies.specs.Bodies.{ScopeTree, BodyTree, checked_all}
 use Rattle.fx_c_types.specs.declared.program.SourceFile.{SourceFile}
 use Rattle.fx_c_types.specs.Programs as program
 use Rattle.fx_c_types.specs.Programs.{PlacedDecl, ProgramTree, at_declaration, ◌>>>◌, tags_of, heads_of, body_from, BodiesTree, no_bodies, function_of, with_function, finished, scope_of, function_body, body_of, bodies_of, main_number, program_of, well_typed}
 use Rattle.fx_c_types.specs.ProgramView.{placed_in, declarations, function_trees}
-use Rattle.fx_c_types_law.specs.WellTyped.{WellTyped}
+use Rattle.fx_c_types.specs.WellTyped.{WellTyped}
 use Rattle.fx_c_types_law.proofs.Ends.{Ends, bind_ends, then_ends, demand_ends, at_ends}
 use Rattle.fx_c_types_law.proofs.Heads.{structs_in}
-use Rattle.fx_c_types_texts_law.specs.Each.{EachInAll}
+use Rattle.fx_c_types_model.specs.Each.{EachInAll}
 use Rattle.fx_c_types_texts_law.specs.Texts.{AreFilesOf}
 use Rattle.fx_c_types_texts_law.proofs.Trees.{IsBare, IsDeclared, WrittenInAll, IsWritten, AreWritten, text_written}
 use Rattle.fx_c_types_texts_law.proofs.Nodes.{Good, AreClosed, AllLocals, AllGlobals, AllStructs, AllFunctions, any}
@@ -103,7 +105,7 @@ module _ (T E : TyTree → Type 0) (bound : ℕ) (h : HeadsTree) (knows : KnowsH
       bind_ends (Leaves T (EachInAll (Good T E))) (Next b 0) (checked_all s false from NoTStmts body) (λ x. finished h b f x)
       (all_checked_good T E s (in_scope b f within fits.0) false from NoTStmts body fits.1 w tt) (λ x k.
       let made : program.FunctionTree = function_of f x.1.locals x.0 in
-      demand_ends (Next b 0) (nat_le (frame_size h.layouts x.1.locals x.0) 65536) FrameTooLong (Ok (with_function b x.1.literals made)) (λ _.
+      demand_ends (Next b 0) (nat_le (frame_size (known h.layouts) (types_of_locals x.1.locals) x.0) 65536) FrameTooLong (Ok (with_function b x.1.literals made)) (λ _.
       (bodies_push (Good T E) b.functions made all k.1, omega arith)))
 
   body_good : (b : BodiesTree) (d : DeclTree) → b.declared + structs_in d ≤ bound → IsWritten d → AllBodies (Good T E) b.functions → Ends (Next b (structs_in d)) (body_of h b d)

@@ -7,7 +7,7 @@ use Rattle.fx_c_parse.specs.Grammar.{IsBase, void_base, signed_base, unsigned_al
 use Rattle.fx_c_parse.specs.Phrases.{IsDeclarator, declarator, IsValue, no_value, some_value, IsMaybeExpression, no_expression, some_expression, IsSimple, evaluation, assignment, IsMaybeSimple, no_simple, some_simple, IsStatement, empty, block, local, simple, conditional, alternative, repetition, counted, break, continue, return, IsStatements, no_statement, statements}
 use Rattle.fx_c_parse.specs.Units.{IsList, no_item, next_item, IsMember, struct_member, IsParameter, parameter, IsNextParameter, next_parameter, IsParameters, no_parameter, void_alone, parameters, IsDeclaration, structure, global, function}
 use Rattle.fx_c_parse.specs.Exact.{IsTextOf}
-use Rattle.fx_c_types_texts_law.specs.Fits.{IsDeviceRegister}
+use Rattle.fx_c_types_model.specs.Fits.{IsDeviceRegister}
 
 -- a type without arrays: a base and stars
 abbrev pub IsBare : TypeTree → Type 0

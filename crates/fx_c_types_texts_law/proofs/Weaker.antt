@@ -1,7 +1,7 @@
 -- What follows at each node of what holds there.
 use Rattle.std.specs.Prelude.{Option, Some, None}
 use Rattle.fx_c_ast.specs.CheckedTrees.{TExprTree, ENumber, ELiteral, EGlobal, ELocal, EUn, EBin, ECast, EConvert, ESize, EIndex, EMember, EArrow, ECall, EGate, EGetc, EPutc, EDevLoad, EDevStore, ESpawn, ESwitch, EMe, TExprTrees, NoTExprs, MoreTExprs, TStmtTree, SEmpty, SBlock, SLocal, SEval, SAssign, SIf, SWhile, SFor, SBreak, SContinue, SReturn, TStmtTrees, NoTStmts, MoreTStmts, MaybeTStmt, NoTStmt, OneTStmt}
-use Rattle.fx_c_types_texts_law.specs.Each.{Each, EachOfAll, EachOfValue, EachIn, EachInMaybe, EachInAll}
+use Rattle.fx_c_types_model.specs.Each.{Each, EachOfAll, EachOfValue, EachIn, EachInMaybe, EachInAll}
 
 module _ (P Q : TExprTree → Type 0) (follows : (e : TExprTree) → P e → Q e) where
   mutual

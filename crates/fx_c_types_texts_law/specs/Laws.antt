@@ -5,11 +5,11 @@ use Rattle.fx_c_ast.specs.declared.checked.TFunction.{TFunction}
 use Rattle.fx_c_ast.specs.declared.checked.TProgram.{TProgram}
 use Rattle.fx_c_ast.specs.CheckedTrees.{tstmt_trees, struct_types}
 use Rattle.fx_c_types.specs.declared.program.SourceFile.{SourceFile}
-use Rattle.fx_c_types_law.specs.WellTyped.{WellTyped}
-use Rattle.fx_c_types_trees_law.specs.Tables.{tables}
-use Rattle.fx_c_types_trees_law.specs.Trees.{AreRight}
-use Rattle.fx_c_types_texts_law.specs.Each.{EachInAll}
-use Rattle.fx_c_types_texts_law.specs.Fits.{DeviceFits, ElementFits}
+use Rattle.fx_c_types.specs.WellTyped.{WellTyped}
+use Rattle.fx_c_types_model.specs.Tables.{tables}
+use Rattle.fx_c_types_model.specs.Trees.{AreRight}
+use Rattle.fx_c_types_model.specs.Each.{EachInAll}
+use Rattle.fx_c_types_model.specs.Fits.{DeviceFits, ElementFits}
 use Rattle.fx_c_types_texts_law.specs.Texts.{AreFilesOf, bytes_of}
 
 -- each device is one of 16, and each register one of its 512

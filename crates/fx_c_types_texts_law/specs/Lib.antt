@@ -1,5 +1,3 @@
-pub mod Each
-pub mod Fits
 pub mod Texts
 pub mod Laws
 pub mod Strings

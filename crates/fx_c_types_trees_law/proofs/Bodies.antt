@@ -18,8 +18,8 @@ use Rattle.fx_c_types_rules.specs.Calls.{joined, putc, device_store, switch}
 use Rattle.fx_c_types_heads.specs.Written.{ty_of, is_named}
 use Rattle.fx_c_types_heads.specs.Heads.{HeadsTree, object_type}
 use Rattle.fx_c_types_bodies.specs.Bodies.{ScopeTree, BodyTree, then_in, variable, text_node, cast_type, cast_node, size_of_type, callee, call, gate, spawn, typed, typed_all, innermost, entered, left, with_local, with_name, started, assigned_start, declared_local, local, place_16, returned, maybe_typed, maybe_condition, return_node, followed, checked, checked_maybe, checked_all}
-use Rattle.fx_c_types_trees_law.specs.Tables.{Tables, IsNamed, local_type, type_of_local}
-use Rattle.fx_c_types_trees_law.specs.Trees.{IsTyped, AreTyped, IsTest, IsMaybeTest, IsStart, IsReturned, IsRight, MaybeRight, AreRight}
+use Rattle.fx_c_types_model.specs.Tables.{Tables, IsNamed, local_type, type_of_local}
+use Rattle.fx_c_types_model.specs.Trees.{IsTyped, AreTyped, IsTest, IsMaybeTest, IsStart, IsReturned, IsRight, MaybeRight, AreRight}
 use Rattle.fx_c_types_law.proofs.Heads.{all_types}
 use Rattle.fx_c_types_law.proofs.Ends.{Ends, bind_ends, demand_ends, weaker, both_end}
 use Rattle.fx_c_types_trees_law.proofs.Shapes.{agree_scalar}

@@ -11,9 +11,9 @@ use Rattle.fx_c_types_rules.specs.Locals.{LocalTree}
 use Rattle.fx_c_types_rules.specs.Calls.{are_scalars, are_passed, passed, arguments, joined, putc, device_store, switch}
 use Rattle.fx_c_types_heads.specs.Heads.{HeadsTree, FunctionHead}
 use Rattle.fx_c_types_bodies.specs.Bodies.{BodyTree, function_named, CalleeTree, numbered, head_numbered, callee, call, gate, is_long, are_one_long, first_value, spawn}
-use Rattle.fx_c_types_trees_law.specs.Tables.{Tables}
-use Rattle.fx_c_types_trees_law.specs.Nodes.{ArePassed, Calls, Enters, IsOneLong, Starts}
-use Rattle.fx_c_types_trees_law.specs.Trees.{IsTyped, AreTyped}
+use Rattle.fx_c_types_model.specs.Tables.{Tables}
+use Rattle.fx_c_types_model.specs.Nodes.{ArePassed, Calls, Enters, IsOneLong, Starts}
+use Rattle.fx_c_types_model.specs.Trees.{IsTyped, AreTyped}
 use Rattle.fx_c_types_law.proofs.Ends.{Ends, bind_ends, demand_ends}
 use Rattle.fx_c_types_trees_law.proofs.Shapes.{same_is, agree_scalar}
 use Rattle.fx_c_types_trees_law.proofs.Nodes.{type_converted, value_typed, agreed, IsLong, long_typed}

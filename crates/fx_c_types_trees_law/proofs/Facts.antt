@@ -17,12 +17,12 @@ use Rattle.fx_c_types_heads.proofs.Fields.{types_are, length-struct_trees}
 use Rattle.fx_c_types.specs.declared.program.SourceFile.{SourceFile}
 use Rattle.fx_c_types.specs.Programs as program
 use Rattle.fx_c_types.specs.ProgramView.{declarations, function_tree, function_trees, program_tree}
-use Rattle.fx_c_types_law.specs.WellTyped.{WellTyped}
+use Rattle.fx_c_types.specs.WellTyped.{WellTyped}
 use Rattle.fx_c_types_law.proofs.Ends.{Ends}
 use Rattle.fx_c_types_law.proofs.Heads.{all_types, length-all_types}
-use Rattle.fx_c_types_trees_law.specs.Tables.{Tables, IsNamed, head_of, heads_of, tables}
-use Rattle.fx_c_types_trees_law.specs.Nodes.{IsAnswer}
-use Rattle.fx_c_types_trees_law.specs.Trees.{AreRight}
+use Rattle.fx_c_types_model.specs.Tables.{Tables, IsNamed, head_of, heads_of, tables}
+use Rattle.fx_c_types_model.specs.Nodes.{IsAnswer}
+use Rattle.fx_c_types_model.specs.Trees.{AreRight}
 use Rattle.fx_c_types_trees_law.specs.Laws.{NumbersFit}
 use Rattle.fx_c_types_trees_law.proofs.Scope.{tables_in, AreNamed}
 use Rattle.fx_c_types_trees_law.proofs.Programs.{tree_head, IsRightFunction, IsRightProgram, accepted_right}

@@ -13,9 +13,9 @@ use Rattle.fx_c_types_rules.specs.Checks.{Checked, ◌>>=◌, refuse, demand}
 use Rattle.fx_c_types_rules.specs.Types.{promoted, common, category, pointee, same_type, is_void, is_complete}
 use Rattle.fx_c_types_rules.specs.Values.{type_of, is_zero, is_object, converted, decayed, value_of, integer_type, integer_of, tested, condition, as_long, pointers_agree, agrees, is_whole, assigned}
 use Rattle.fx_c_types_rules.specs.Operators.{signed, negated, pointed, unary, arithmetic, shifted, logical, sum_of, difference_of, numbers_compared, compared_as, common_pointer, compared_of, binary_values, binary, cast_of, cast, element_of, element}
-use Rattle.fx_c_types_trees_law.specs.Tables.{Tables}
-use Rattle.fx_c_types_trees_law.specs.Nodes.{IsInteger, IsPointer, IsScalar, IsAnswer, IsAssigned, IsElementPointer, FitsUnary, Casts, Converts, IsArithmetic, IsShift, IsComparison, IsLogical, FitsBinary, Calls, Enters}
-use Rattle.fx_c_types_trees_law.specs.Trees.{IsType, IsTyped}
+use Rattle.fx_c_types_model.specs.Tables.{Tables}
+use Rattle.fx_c_types_model.specs.Nodes.{IsInteger, IsPointer, IsScalar, IsAnswer, IsAssigned, IsElementPointer, FitsUnary, Casts, Converts, IsArithmetic, IsShift, IsComparison, IsLogical, FitsBinary, Calls, Enters}
+use Rattle.fx_c_types_model.specs.Trees.{IsType, IsTyped}
 use Rattle.fx_c_types_law.proofs.Ends.{Ends, bind_ends, demand_ends}
 use Rattle.fx_c_types_trees_law.proofs.Shapes.{same_is, complete_more, pointee_named, IsAggregate, scalar_not, answer_not, integer_scalar, binary_scalar, cast_scalar, converts_scalar, agree_converts, agree_assigned}
 

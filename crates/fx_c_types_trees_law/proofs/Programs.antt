@@ -13,11 +13,11 @@ use Rattle.fx_c_ast.proofs.Layouts.{more_bound}
 use Rattle.fx_c_types_heads.specs.Names.{found}
 use Rattle.fx_c_types_rules.specs.declared.fault.TypeKind.TheVariants.{FrameTooLong}
 use Rattle.fx_c_types_rules.specs.Checks.{Checked}
-use Rattle.fx_c_types_rules.specs.Locals.{LocalTree}
+use Rattle.fx_c_types_rules.specs.Locals.{LocalTree, types_of_locals}
 use Rattle.fx_c_types_heads.specs.Written.{ty_of}
 use Rattle.fx_c_types_heads.specs.Sizes.{known}
 use Rattle.fx_c_types_heads.specs.Heads.{HeadsTree, FunctionHead, no_heads, head, object_type}
-use Rattle.fx_c_types.specs.Frames.{slots_size, frame_size}
+use Rattle.fx_c_ast.specs.StackUse.{slots_size, frame_size}
 use Rattle.fx_c_types_bodies.specs.Bodies.{ScopeTree, BodyTree, checked_all, place_16}
 use Rattle.fx_c_types.specs.declared.fault.TypeError.{TypeError}
 use Rattle.fx_c_types.specs.Programs as program
@@ -26,8 +26,8 @@ use Rattle.fx_c_types_law.proofs.Ends.{Ends, bind_ends, then_ends, demand_ends, 
 use Rattle.fx_c_types_law.proofs.Known.{sized_same, table_is}
 use Rattle.fx_c_types_law.proofs.Heads.{all_types, length-all_types, IsSound, none_sound, HasScalars, structs_in, functions_in, Follows, head_ends, object_ends}
 use Rattle.fx_c_types_law.proofs.Programs.{struct_count, function_count}
-use Rattle.fx_c_types_trees_law.specs.Tables.{IsNamed}
-use Rattle.fx_c_types_trees_law.specs.Trees.{AreRight}
+use Rattle.fx_c_types_model.specs.Tables.{IsNamed}
+use Rattle.fx_c_types_model.specs.Trees.{AreRight}
 use Rattle.fx_c_types_trees_law.proofs.Lists.{Before, there, some_at, AreBelow, below_more}
 use Rattle.fx_c_types_trees_law.proofs.Scope.{tables_in, AreNamed, below_lead, IsTied, Within}
 use Rattle.fx_c_types_trees_law.proofs.Bodies.{Grows, all_checked_good}
@@ -88,7 +88,7 @@ take_before (x ∷ xs) (y ∷ ys) before =
     let first : y ≡ x = (let at : Some y ≡ Some x = before zero x refl in cc) in
     ap (λ z. z ∷ take (length xs) ys) first ∙ ap (λ zs. x ∷ zs) (take_before xs ys (λ n z at. before (suc n) z at))
 
-many_slots : (layouts : List Layout) (ls : List LocalTree) → 16 * length ls ≤ slots_size layouts ls
+many_slots : (layouts : List Layout) (ls : List LocalTree) → 16 * length ls ≤ slots_size (known layouts) (types_of_locals ls)
 many_slots layouts [] = omega arith
 many_slots layouts (l ∷ ls) = omega (arith, many_slots layouts ls)
 
@@ -134,9 +134,9 @@ module _ (h : HeadsTree) (sound : IsSound h) (tied : IsTied h) where
   finished_right b f params x has at named six good =
       let made : program.FunctionTree = function_of f x.1.locals x.0 in
       let grows : Grows bound (body_from b.literals f params) x.1 = (good ([], [])).0 in
-      demand_ends (HasNext h b 0 1) (nat_le (frame_size h.layouts x.1.locals x.0) 65536) FrameTooLong (Ok (with_function b x.1.literals made)) (λ short.
-      let size : frame_size h.layouts x.1.locals x.0 ≤ 65536 = leb-true (frame_size h.layouts x.1.locals x.0) 65536 short in
-      let slots : 16 * length x.1.locals ≤ slots_size h.layouts x.1.locals = many_slots h.layouts x.1.locals in
+      demand_ends (HasNext h b 0 1) (nat_le (frame_size (known h.layouts) (types_of_locals x.1.locals) x.0) 65536) FrameTooLong (Ok (with_function b x.1.literals made)) (λ short.
+      let size : frame_size (known h.layouts) (types_of_locals x.1.locals) x.0 ≤ 65536 = leb-true (frame_size (known h.layouts) (types_of_locals x.1.locals) x.0) 65536 short in
+      let slots : 16 * length x.1.locals ≤ slots_size (known h.layouts) (types_of_locals x.1.locals) = many_slots h.layouts x.1.locals in
       let few : length x.1.locals ≤ 65536 = omega arith in
       let place : place_16 (length f.params) ≡ length f.params = omega arith in
       let same : tree_head made ≡ f =

@@ -18,9 +18,9 @@ use Rattle.fx_c_types_heads.specs.Written.{number_or, ty_of, is_named, is_object
 use Rattle.fx_c_types_heads.specs.Sizes.{known, is_small}
 use Rattle.fx_c_types_heads.specs.Heads.{HeadsTree, GlobalHead, FunctionHead, types_of, object_type}
 use Rattle.fx_c_types_bodies.specs.Bodies.{BodyTree, or_found, in_blocks, local_named, place_16, type_or_void, local_node, global_or_void, global_node, variable_node, variable}
-use Rattle.fx_c_types_trees_law.specs.Tables.{Tables, IsNamed, type_of_global, type_of_local, type_of_text, local_type, literal_type, member_type}
-use Rattle.fx_c_types_trees_law.specs.Nodes.{IsPointer, IsAnswer}
-use Rattle.fx_c_types_trees_law.specs.Trees.{IsTyped}
+use Rattle.fx_c_types_model.specs.Tables.{Tables, IsNamed, type_of_global, type_of_local, type_of_text, local_type, literal_type, member_type}
+use Rattle.fx_c_types_model.specs.Nodes.{IsPointer, IsAnswer}
+use Rattle.fx_c_types_model.specs.Trees.{IsTyped}
 use Rattle.fx_c_types_law.proofs.Heads.{all_types}
 use Rattle.fx_c_types_law.proofs.Ends.{Ends, demand_ends}
 use Rattle.fx_c_types_trees_law.proofs.Shapes.{IsAggregate}

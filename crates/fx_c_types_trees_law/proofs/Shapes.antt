@@ -8,8 +8,8 @@ use Rattle.fx_c_ast.specs.declared.operator.Binop.TheVariants.{Add, Sub, Shl, Sh
 use Rattle.fx_c_ast.specs.CheckedTrees.{TyTree, VoidTy, IntTy, StructTy, PtrTy, ArrayTy, TExprTree}
 use Rattle.fx_c_types_rules.specs.Types.{place, category, same_type, is_complete, pointee}
 use Rattle.fx_c_types_rules.specs.Values.{type_of, is_scalar, agreement}
-use Rattle.fx_c_types_trees_law.specs.Tables.{IsNamed}
-use Rattle.fx_c_types_trees_law.specs.Nodes.{IsInteger, IsScalar, IsAnswer, IsAssigned, IsElementPointer, Casts, Converts, FitsBinary}
+use Rattle.fx_c_types_model.specs.Tables.{IsNamed}
+use Rattle.fx_c_types_model.specs.Nodes.{IsInteger, IsScalar, IsAnswer, IsAssigned, IsElementPointer, Casts, Converts, FitsBinary}
 
 place_is : (i j : IntType) → nat_eq (place i) (place j) ≡ true → i ≡ j
 place_is Char Char h = refl

@@ -20,8 +20,8 @@ use Rattle.fx_c_types_heads.specs.Heads.{HeadsTree, GlobalHead, FunctionHead, re
 use Rattle.fx_c_types.specs.Programs.{PlacedDecl, name_unless, with_tag, tags_of}
 use Rattle.fx_c_types_law.proofs.Heads.{all_types, structs_in}
 use Rattle.fx_c_types_law.proofs.Programs.{struct_count}
-use Rattle.fx_c_types_trees_law.specs.Tables.{IsNamed}
-use Rattle.fx_c_types_trees_law.specs.Nodes.{IsScalar, IsAnswer}
+use Rattle.fx_c_types_model.specs.Tables.{IsNamed}
+use Rattle.fx_c_types_model.specs.Nodes.{IsScalar, IsAnswer}
 use Rattle.fx_c_types_law.proofs.Ends.{Ends, bind_ends, demand_ends}
 use Rattle.fx_c_types_trees_law.proofs.Lists.{Before, before_append, last_at, AreBelow, below_more, below_push}
 use Rattle.fx_c_types_trees_law.proofs.Scope.{AreNamed, LeadBelow, named_type, object_named}

@@ -8,10 +8,10 @@ use Rattle.fx_c_ast.specs.declared.checked.TFunction.{TFunction}
 use Rattle.fx_c_ast.specs.declared.checked.TProgram.{TProgram}
 use Rattle.fx_c_ast.specs.CheckedTrees.{ty_tree, tstmt_trees}
 use Rattle.fx_c_types.specs.declared.program.SourceFile.{SourceFile}
-use Rattle.fx_c_types_law.specs.WellTyped.{WellTyped}
-use Rattle.fx_c_types_trees_law.specs.Tables.{IsNamed, tables}
-use Rattle.fx_c_types_trees_law.specs.Nodes.{IsAnswer}
-use Rattle.fx_c_types_trees_law.specs.Trees.{AreRight}
+use Rattle.fx_c_types.specs.WellTyped.{WellTyped}
+use Rattle.fx_c_types_model.specs.Tables.{IsNamed, tables}
+use Rattle.fx_c_types_model.specs.Nodes.{IsAnswer}
+use Rattle.fx_c_types_model.specs.Trees.{AreRight}
 
 -- 32 bits hold the number of each string, and that of each member of a struct
 abbrev pub NumbersFit : TProgram → Type 0

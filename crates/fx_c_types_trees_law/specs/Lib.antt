@@ -1,4 +1,1 @@
-pub mod Tables
-pub mod Nodes
-pub mod Trees
 pub mod Laws

@@ -5,10 +5,10 @@ use Rattle.fx_config.specs.declared.configuration.Config.{Config}
 use Rattle.fx_c_ast.specs.declared.checked.TFunction.{TFunction}
 use Rattle.fx_c_ast.specs.declared.checked.TProgram.{TProgram}
 use Rattle.fx_c_ast.specs.CheckedTrees.{tstmt_trees, struct_types}
-use Rattle.fx_c_types_trees_law.specs.Tables.{tables}
-use Rattle.fx_c_types_trees_law.specs.Trees.{AreRight}
-use Rattle.fx_c_types_texts_law.specs.Each.{EachInAll}
-use Rattle.fx_c_types_texts_law.specs.Fits.{DeviceFits, ElementFits}
+use Rattle.fx_c_types_model.specs.Tables.{tables}
+use Rattle.fx_c_types_model.specs.Trees.{AreRight}
+use Rattle.fx_c_types_model.specs.Each.{EachInAll}
+use Rattle.fx_c_types_model.specs.Fits.{DeviceFits, ElementFits}
 use Rattle.fx_cmd_load.specs.Loading.{HasFewParts}
 use Rattle.fx_cmd_load.specs.Programs.{IsProgramOf}
 

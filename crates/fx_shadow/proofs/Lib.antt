@@ -1,4 +1,3 @@
-pub mod Needs
 pub mod Slots
 pub mod Spans
 pub mod Tried

@@ -5,7 +5,7 @@ use Rattle.fx_c_ast.specs.declared.checked.TStruct.{TStruct}
 use Rattle.fx_c_ast.specs.declared.checked.TLocal.{TLocal}
 use Rattle.fx_c_ast.specs.declared.checked.TFunction.{TFunction}
 use Rattle.fx_c_ast.specs.declared.checked.TProgram.{TProgram}
-use Rattle.fx_c_ast.specs.CheckedTrees.{TyTree, ty_tree, struct_types}
+use Rattle.fx_c_ast.specs.CheckedTrees.{TyTree, ty_tree, local_types, struct_types}
 use Rattle.fx_c_ast.specs.Layout.{known_layouts, IsSized, StructsAreSized}
 use Rattle.fx_c_ast.specs.StackUse.{depth, slots_size, locals_size, fs}
 use Rattle.fx_shadow.specs.declared.frames.FrameSize.{FrameSize}
@@ -21,12 +21,16 @@ pub record HasFrames (p : TProgram) : Type 0 where
   pub structs : StructsAreSized (struct_types p.structs)
   pub functions : All (HasFrame p.structs) p.functions
 
+-- the bytes of the slots of some locals
+abbrev pub slots_of : List (List TyTree) → List TLocal → ℕ
+slots_of structs locals = slots_size (known_layouts structs) (local_types locals)
+
 abbrev pub frame_of : List (List TyTree) → TFunction → FrameSize
 frame_of structs f = record { size = fs structs f; locals = locals_size structs f; depth = depth f }
 
 -- how far below the frame pointer the slot of local i begins: behind it and the slots before it
 abbrev pub slot_below : List (List TyTree) → List TLocal → ℕ → ℕ
-slot_below structs locals i = slots_size structs (take (i + 1) locals)
+slot_below structs locals i = slots_of structs (take (i + 1) locals)
 
 -- what is to be known of a local at this place of the list
 abbrev pub slot_of : List (List TyTree) → List TLocal → ℕ → TLocal → SlotPlace

@@ -4,8 +4,7 @@ use Rattle.fx_config.specs.declared.configuration.Config.{Config}
 use Rattle.fx_c_ast.specs.declared.checked.TLocal.{TLocal}
 use Rattle.fx_c_ast.specs.CheckedTrees.{TyTree, ty_tree}
 use Rattle.fx_c_ast.specs.Layout.{layout_of}
-use Rattle.fx_c_ast.specs.StackUse.{slots_size}
-use Rattle.fx_shadow.specs.Frames.{slot_below}
+use Rattle.fx_shadow.specs.Frames.{slots_of, slot_below}
 use Rattle.fx_shadow.specs.Stacks.{has_halves, stack_size, stack_number, stack_low, frame_pointer, local_address}
 
 -- a local ends at least 16 bytes below where the one declared before it begins
@@ -19,7 +18,7 @@ abbrev pub SlotsAreInFrame : Type 0
 SlotsAreInFrame =
     (structs : List (List TyTree)) (locals : List TLocal) (i : ℕ) → i < length locals
     → HoldsAt (λ (l : TLocal). (layout_of structs (ty_tree l.ty)).size + 16 ≤ slot_below structs locals i) locals i
-    × (slot_below structs locals i ≤ slots_size structs locals)
+    × (slot_below structs locals i ≤ slots_of structs locals)
     × (slot_below structs locals i % 16 ≡ 0)
 
 -- two stacks of different numbers, both halves counted, have two unmapped pages between them

@@ -1,16 +1,16 @@
 //! The sizes of frames, and the slots in them.
 
 ghost use Rattle.std.specs.Prelude.{◌≡◌, ◌+◌, ◌<◌, ◌≤◌, All, HoldsAt, length};
-ghost use Rattle.fx_c_ast.specs.CheckedTrees.{ty_tree, struct_types};
+ghost use Rattle.fx_c_ast.specs.CheckedTrees.{ty_tree, struct_types, tstmt_trees};
 ghost use Rattle.fx_c_ast.specs.Layout.{known_layouts, round_up, IsSized, StructsAreSized};
-ghost use Rattle.fx_c_ast.specs.StackUse.{slots_size};
+ghost use Rattle.fx_c_ast.specs.StackUse.{need_stmts};
 ghost use Rattle.fx_c_ast.specs.declared.checked.TFunction.{TFunction};
 ghost use Rattle.fx_c_ast.specs.declared.checked.TLocal.{TLocal};
-ghost use Rattle.fx_shadow.specs.Frames.{HasFrame, HasFrames, frame_of, slot_of};
+ghost use Rattle.fx_shadow.specs.Frames.{HasFrame, HasFrames, slots_of, frame_of, slot_of};
 
-use crate::need::statements_need;
-use fx_c_ast::checked::{TFunction, TLocal, TProgram};
+use fx_c_ast::checked::{TFunction, TLocal, TProgram, TStmt};
 use fx_c_ast::layout::size_of;
+use fx_c_ast::stack::{frame_bytes, need_stmts, slot_size};
 
 /// What a call of a function takes of its stack.
 #[derive(Clone, Copy, Debug, PartialEq, Eq)]
@@ -48,11 +48,22 @@ fn function_frame(p: &TProgram, f: &TFunction) -> FrameSize
     ensures { result ≡ frame_of (struct_types p.now.structs) f.now }
 {
     let locals = slots_bytes(p, f.locals.as_slice());
-    let depth = even(statements_need(&f.body));
+    let pending = pending_operands(f.body.as_slice());
     FrameSize {
-        size: 16 + locals + 8 * depth,
+        size: frame_bytes(u64::from(locals), pending) as u32,
         locals,
-        depth,
+        depth: even(pending as u32),
+    }
+}
+
+// The most operands that are pending at once in a body, where they are few.
+fn pending_operands(body: &[TStmt]) -> u64
+    requires { need_stmts (tstmt_trees body.now) ≤ 65536 }
+    ensures { result ≡ need_stmts (tstmt_trees body.now) }
+{
+    match need_stmts(body) {
+        Some(pending) => pending,
+        None => unreachable!(),
     }
 }
 
@@ -70,7 +81,7 @@ pub fn slot(p: &TProgram, f: u32, local: u16) -> SlotPlace
 fn slot_among(p: &TProgram, locals: &[TLocal], local: u16) -> SlotPlace
     requires structs { StructsAreSized (struct_types p.now.structs) }
     requires sized { All (λ (l : TLocal). IsSized (known_layouts (struct_types p.now.structs)) (length p.now.structs) (ty_tree l.ty)) locals.now }
-    requires small { slots_size (struct_types p.now.structs) locals.now ≤ 65536 }
+    requires small { slots_of (struct_types p.now.structs) locals.now ≤ 65536 }
     requires declared { local < length locals.now }
     ensures { HoldsAt (λ (l : TLocal). result ≡ slot_of (struct_types p.now.structs) locals.now local l) locals.now local }
 {
@@ -84,22 +95,14 @@ fn slot_among(p: &TProgram, locals: &[TLocal], local: u16) -> SlotPlace
 fn slots_bytes(p: &TProgram, locals: &[TLocal]) -> u32
     requires structs { StructsAreSized (struct_types p.now.structs) }
     requires sized { All (λ (l : TLocal). IsSized (known_layouts (struct_types p.now.structs)) (length p.now.structs) (ty_tree l.ty)) locals.now }
-    requires small { slots_size (struct_types p.now.structs) locals.now ≤ 65536 }
-    ensures { result ≡ slots_size (struct_types p.now.structs) locals.now }
+    requires small { slots_of (struct_types p.now.structs) locals.now ≤ 65536 }
+    ensures { result ≡ slots_of (struct_types p.now.structs) locals.now }
 {
     let mut bytes: u32 = 0;
     for local in locals {
-        bytes += slot_bytes(size_of(p, &local.ty));
+        bytes += slot_size(size_of(p, &local.ty)) as u32;
     }
     bytes
-}
-
-// A slot begins at a multiple of 16, and 16 bytes lie between it and the slot before it.
-fn slot_bytes(size: u64) -> u32
-    requires { size ≤ 67108864 }
-    ensures { result ≡ round_up size 16 + 16 }
-{
-    ((size + 15) / 16 * 16 + 16) as u32
 }
 
 fn even(n: u32) -> u32

@@ -4,7 +4,6 @@
 
 pub mod frames;
 pub mod laws;
-mod need;
 pub mod stacks;
 #[cfg(test)]
 mod tests;

@@ -2,7 +2,7 @@ use Rattle.std.proofs.Common.{ap, ◌∙◌, ℕ, List}
 use Rattle.fx_c_ast.specs.declared.layout.Layout.{Layout}
 use Rattle.fx_c_ast.specs.CheckedTrees.{TyTree, member_types, struct_types}
 use Rattle.fx_c_ast.specs.Layout.{known_layouts}
-use Rattle.fx_c_mean_control.specs.Tables.{member_place}
+use Rattle.fx_c_ast.specs.Members.{member_place}
 use Rattle.fx_c_mean_acts.proofs.Rounds.{tables}
 use Rattle.fx_c_mean_acts.proofs.source.Source.offset.Goals as goal
 

@@ -1,13 +1,13 @@
-//! How many operands are pending at once, if fewer than 2^64.
+//! What a call of a function takes of its stack: the operands that are pending at once, if fewer than
+//! 2^64, the slots of parameters and locals, and the frame (this project's own layout).
 
-ghost use Rattle.std.specs.Prelude.{◌≡◌, ◌≤◌, ◌+◌, ◌^◌, max, MatchOption};
+ghost use Rattle.std.specs.Prelude.{◌≡◌, ◌<◌, ◌≤◌, ◌+◌, ◌^◌, max, MatchOption};
 ghost use Rattle.fx_c_ast.specs.CheckedTrees.{texpr_tree, texpr_trees, maybe_texpr, tstmt_tree, tstmt_trees};
-ghost use Rattle.fx_c_ast.specs.StackUse.{need, need_two, need_all, need_maybe, need_start, need_stmt, need_maybe_stmt, need_stmts};
-ghost use Rattle.fx_c_types.specs.Held.{held};
-ghost use Rattle.fx_c_types.specs.Needs.{IsCounted};
+ghost use Rattle.fx_c_ast.specs.StackUse.{need, need_two, need_all, need_maybe, need_start, need_stmt, need_maybe_stmt, need_stmts, slot_size, frame_bytes};
+ghost use Rattle.fx_c_ast.specs.Counts.{held, IsCounted};
 
-use fx_c_ast::checked::{TExpr, TKind, TStmt};
-use fx_c_ast::operator::Binop;
+use crate::checked::{TExpr, TKind, TStmt};
+use crate::operator::Binop;
 
 // Two operands of which the second is evaluated while the first is pending.
 fn one_behind(a: u64, b: u64) -> Option<u64>
@@ -121,4 +121,23 @@ pub fn need_stmts(all: &[TStmt]) -> Option<u64>
         greatest = greatest.max(need_stmt(s)?);
     }
     Some(greatest)
+}
+
+/// The bytes of a slot for a parameter or a local of so many bytes: a slot begins at a multiple of 16,
+/// and 16 bytes lie between it and the slot before it.
+pub fn slot_size(bytes: u64) -> u64
+    requires { bytes < 2 ^ 63 }
+    ensures { result ≡ slot_size bytes }
+{
+    (bytes + 15) / 16 * 16 + 16
+}
+
+/// The bytes of a frame with slots of so many bytes and so many pending operands: the return address
+/// and the saved frame pointer, the slots, and an even number of words for the operands.
+pub fn frame_bytes(slots: u64, pending: u64) -> u64
+    requires slots { slots < 2 ^ 63 }
+    requires pending { pending ≤ 2 ^ 32 }
+    ensures { result ≡ frame_bytes slots pending }
+{
+    16 + slots + (pending + 1) / 2 * 16
 }

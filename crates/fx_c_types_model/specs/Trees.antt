@@ -5,8 +5,8 @@ use Rattle.fx_c_ast.specs.CheckedTrees.{TyTree, VoidTy, IntTy, PtrTy, TExprTree,
 use Rattle.fx_c_ast.specs.Layout.{known_layouts, IsSized}
 use Rattle.fx_c_types_rules.specs.Types.{is_complete, pointee}
 use Rattle.fx_c_types_rules.specs.Values.{type_of, is_object}
-use Rattle.fx_c_types_trees_law.specs.Tables.{Tables, IsNamed, global_type, local_type, literal_type, member_type}
-use Rattle.fx_c_types_trees_law.specs.Nodes.{IsInteger, IsPointer, IsScalar, IsAssigned, FitsUnary, Casts, Converts, FitsBinary, Calls, Enters, Starts}
+use Rattle.fx_c_types_model.specs.Tables.{Tables, IsNamed, global_type, local_type, literal_type, member_type}
+use Rattle.fx_c_types_model.specs.Nodes.{IsInteger, IsPointer, IsScalar, IsAssigned, FitsUnary, Casts, Converts, FitsBinary, Calls, Enters, Starts}
 
 -- a type of the program
 abbrev pub IsType : Tables → TyTree → Type 0

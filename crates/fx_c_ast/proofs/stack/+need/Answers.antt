@@ -1,7 +1,7 @@
 use Rattle.std.proofs.Common.{arith}
 use Rattle.std.proofs.lemmas.Grind.{common_steps}
 use Rattle.fx_c_ast.proofs.Rows.{tcall_is, tgate_is}
-use Rattle.fx_c_types.proofs.need.+need.Goals as goal
+use Rattle.fx_c_ast.proofs.stack.+need.Goals as goal
 
 pub need-returns-in_err-need_all-in-Call : goal.need-returns-in_err-need_all-in-Call
 need-returns-in_err-need_all-in-Call t c = rw (tcall_is _ _ _ _ _ c.in-Call.is c.deref-in-Call.ensures.value) (grind (arith, common_steps))

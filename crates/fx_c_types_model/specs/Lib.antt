@@ -1,0 +1,9 @@
+pub mod Tables
+pub mod Nodes
+pub mod Trees
+pub mod Each
+pub mod Fits
+pub mod Jumps
+pub mod Counts
+pub mod Values
+pub mod Lowerable
