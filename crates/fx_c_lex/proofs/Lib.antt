@@ -6,3 +6,4 @@ pub mod Longest
 pub mod Spellings
 pub mod Ordered
 pub mod Steps
+pub mod Terminals

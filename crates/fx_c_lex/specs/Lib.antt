@@ -5,3 +5,4 @@ pub mod Quoted
 pub mod Lexis
 pub mod Reading
 pub mod Laws
+pub mod Terminals
