@@ -17,9 +17,10 @@ use Rattle.fx_machine_model.specs.Moves.{World, Move, move}
 use Rattle.fx_machine_model.specs.Running.{boot}
 use Rattle.fx_machine_model.specs.declared.stop.Stop.{Stop}
 use Rattle.fx_machine_model.specs.declared.stop.Stop.TheVariants as stops
-use Rattle.fx_machine_model.proofs.Pages.{Fits, fits}
+use Rattle.fx_machine_model.specs.Standing.{Fits, HoldsCode, StandsAt}
+use Rattle.fx_machine_model.proofs.Pages.{fits}
 use Rattle.fx_machine_model.proofs.Regions.{use_stack}
-use Rattle.fx_machine_model.proofs.Standing.{HoldsCode, StandsAt, stored_keeps}
+use Rattle.fx_machine_model.proofs.Standing.{stored_keeps}
 use Rattle.fx_machine_model.proofs.Placing.{boot_code}
 use Rattle.fx_faithful.specs.Ends.{End, Exit, IsUndefined, Corresponds}
 use Rattle.fx_faithful.specs.Faith.{Faithful}

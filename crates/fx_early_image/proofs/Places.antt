@@ -9,7 +9,7 @@ use Rattle.fx_x64_forms.specs.declared.operand.Reg.TheVariants.{Rax, Rcx, Rdi}
 use Rattle.fx_x64_forms.specs.declared.inst.Inst.{Inst}
 use Rattle.fx_x64_forms.specs.declared.inst.Inst.TheVariants.{MovImm, Store, Jmp, Call, Ret, Hlt}
 use Rattle.fx_x64_code.specs.Spelling.{spelling}
-use Rattle.fx_machine_model.proofs.Standing.{StandsAt}
+use Rattle.fx_machine_model.specs.Standing.{StandsAt}
 use Rattle.fx_early_image.specs.Code.{console, at_rax, putc_code, putc_bytes, main_bytes, spelled, start_code, abort_code, filled, entry_table, range_bytes, code_bytes}
 use Rattle.fx_early_image.proofs.Lengths.{length-table, length-putcs}
 

@@ -19,8 +19,8 @@ use Rattle.fx_image.specs.declared.forms.Image.{Image}
 use Rattle.fx_machine_model.specs.Moves.{World, Move, move, perform}
 use Rattle.fx_machine_model.specs.declared.stop.Stop.{Stop}
 use Rattle.fx_machine_model.specs.declared.stop.Stop.TheVariants.{Exit}
-use Rattle.fx_machine_model.proofs.Pages.{Fits}
-use Rattle.fx_machine_model.proofs.Standing.{HoldsCode, StandsAt, executes}
+use Rattle.fx_machine_model.specs.Standing.{Fits, HoldsCode, StandsAt}
+use Rattle.fx_machine_model.proofs.Standing.{executes}
 use Rattle.fx_machine_model.proofs.Executing.{quiet, writes_stack, reads_stack, writes_register}
 use Rattle.fx_early_image.specs.Code.{console, at_rax}
 use Rattle.fx_early_image.specs.Layout.{laid_out, first_rsp}

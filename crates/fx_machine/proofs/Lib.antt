@@ -1,5 +1,5 @@
 pub mod Spaces
-pub mod ByPlace
+pub mod Entries
 pub mod Reach
 pub mod Held
 pub mod Words

@@ -17,11 +17,10 @@ use Rattle.fx_machine_model.specs.Layout.{is_ept, page_entry}
 use Rattle.fx_machine_model.specs.Boot.{boot_byte}
 use Rattle.fx_machine_model.specs.Moves.{fetched}
 use Rattle.fx_machine_model.specs.declared.fetched.Fetched.TheVariants.{Found}
+use Rattle.fx_machine_model.specs.Standing.{Fits, HoldsCode}
 use Rattle.fx_machine_model.proofs.Checks.{first_free}
-use Rattle.fx_machine_model.proofs.Pages.{Fits}
 use Rattle.fx_machine_model.proofs.Fetching.{fetched_spelling}
 use Rattle.fx_machine_model.proofs.Regions.{fetch_code}
-use Rattle.fx_machine_model.proofs.Standing.{HoldsCode}
 use Rattle.fx_machine_model.proofs.Placing.{boot_code}
 use Rattle.fx_machine.specs.Memory.{memory_of}
 use Rattle.fx_machine.specs.declared.memory.Memory.{Memory}

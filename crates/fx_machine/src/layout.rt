@@ -269,7 +269,7 @@ fn low_entry(image: &Image, space: u8, page: u64) -> Option<Entry>
 }
 
 /// The entry of a page in the address space of this number.
-#[tactic(auto, using(crate::proofs::Spaces::none_above, crate::proofs::ByPlace::entry_keyed))]
+#[tactic(auto, using(crate::proofs::Spaces::none_above, crate::proofs::Entries::entry_keyed))]
 pub fn entry(image: &Image, space: u8, page: u64) -> Option<Entry>
     requires whole { IsImage image.now }
     requires few { space < 16 }

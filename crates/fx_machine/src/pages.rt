@@ -51,7 +51,7 @@ impl Pages {
 
     /// The entry of a page in the address space of this number.
     #[inline(always)]
-    #[tactic(auto, using(crate::proofs::ByPlace::entry_keyed))]
+    #[tactic(auto, using(crate::proofs::Entries::entry_keyed))]
     pub fn entry(&mut self, image: &Image, space: u8, page: u64) -> Option<Entry>
         requires whole { IsImage image.now }
         requires few { space < 16 }

@@ -6,6 +6,9 @@ use Rattle.fx_vm_pages.specs.declared.access.Access.{Access}
 use Rattle.fx_vm_pages.specs.declared.access.Refusal.{Refusal}
 use Rattle.fx_vm_pages.specs.Access.{byte_refusal, refused_from, refused_or, page_of, is_register_form, access_check}
 
+abbrev first_is : Refusal → ℕ → Option (ℕ × Refusal)
+first_is why a = Some (a, why)
+
 module _ (entries : ℕ → Option Entry) (pkru : Pkru) (access : Access) where
   -- no byte is refused
   from_free : (form : Bool) (n a : ℕ) → a < 2 ^ 64 → ((k : ℕ) → k < n → byte_refusal (entries (page_of ((a + k) % 2 ^ 64))) pkru access form ≡ None) → refused_from entries pkru access form a n ≡ None
@@ -74,3 +77,30 @@ module _ (entries : ℕ → Option Entry) (pkru : Pkru) (access : Access) where
   after_byte form (suc n) a some e =
       let less : suc n - 1 ≡ n = omega arith in
       ap (λ x. refused_or a x (refused_from entries pkru access form ((a + 1) % 2 ^ 64) n)) e ∙ ap (refused_from entries pkru access form ((a + 1) % 2 ^ 64)) (sym less)
+
+  -- ---- the first refused byte
+
+  refusal_from : (form : Bool) (n a k : ℕ) (why : Refusal) → a < 2 ^ 64 → k < n → ((j : ℕ) → j < k → byte_refusal (entries (page_of ((a + j) % 2 ^ 64))) pkru access form ≡ None)
+      → byte_refusal (entries (page_of ((a + k) % 2 ^ 64))) pkru access form ≡ Some why → refused_from entries pkru access form a n ≡ Some ((a + k) % 2 ^ 64, why)
+  refusal_from form zero a k why lt small free is = absurd (omega arith)
+  refusal_from form (suc n) a zero why lt small free is =
+      let e : (a + 0) % 2 ^ 64 ≡ a = omega arith in
+      let here : byte_refusal (entries (page_of a)) pkru access form ≡ Some why = subst (λ b. byte_refusal (entries (page_of b)) pkru access form ≡ Some why) e is in
+      ap (λ x. refused_or a x (refused_from entries pkru access form ((a + 1) % 2 ^ 64) n)) here ∙ ap (first_is why) (sym e)
+  refusal_from form (suc n) a (suc k) why lt small free is =
+      let e : (a + 0) % 2 ^ 64 ≡ a = omega arith in
+      let here : byte_refusal (entries (page_of a)) pkru access form ≡ None = subst (λ b. byte_refusal (entries (page_of b)) pkru access form ≡ None) e (free 0 (omega arith)) in
+      let f : (a + suc k) % 2 ^ 64 ≡ ((a + 1) % 2 ^ 64 + k) % 2 ^ 64 = omega arith in
+      ap (λ x. refused_or a x (refused_from entries pkru access form ((a + 1) % 2 ^ 64) n)) here
+      ∙ refusal_from form n ((a + 1) % 2 ^ 64) k why (omega arith) (omega arith)
+      (λ j l.
+      let g : (a + suc j) % 2 ^ 64 ≡ ((a + 1) % 2 ^ 64 + j) % 2 ^ 64 = omega arith in
+      subst (λ b. byte_refusal (entries (page_of b)) pkru access form ≡ None) g (free (suc j) (omega arith)))
+      (subst (λ b. byte_refusal (entries (page_of b)) pkru access form ≡ Some why) f is)
+      ∙ ap (first_is why) (sym f)
+
+  -- An access is refused at its first refused byte.
+  pub check_refused : (a n k : ℕ) (why : Refusal) → a < 2 ^ 64 → k < n → ((j : ℕ) → j < k → byte_refusal (entries (page_of ((a + j) % 2 ^ 64))) pkru access (is_register_form a n) ≡ None)
+      → byte_refusal (entries (page_of ((a + k) % 2 ^ 64))) pkru access (is_register_form a n) ≡ Some why → access_check entries pkru access a n ≡ Some ((a + k) % 2 ^ 64, why)
+  unfolding access_check
+  check_refused a n k why lt small free is = refusal_from (is_register_form a n) n a k why lt small free is

@@ -1,5 +1,5 @@
 -- What one turn of an instruction that stands at RIP does, where there is one address space.
-use Rattle.std.proofs.Common.{◌≡◌, ◌≢◌, ℕ, ◌+◌, ◌/◌, ◌%◌, ◌^◌, ◌<◌, ◌≤◌, true, false, [], ◌∷◌, Option, None, Some, ap, ◌∙◌, arith}
+use Rattle.std.proofs.Common.{◌≡◌, ◌≢◌, ℕ, ◌+◌, ◌/◌, ◌%◌, ◌^◌, ◌<◌, ◌≤◌, true, false, List, [], ◌∷◌, Option, None, Some, ap, ◌∙◌, arith}
 use Rattle.fx_outcomes.specs.Runs.{Goes}
 use Rattle.fx_base.specs.declared.device_op.DeviceOp.{DeviceOp}
 use Rattle.fx_x64_forms.specs.Numbers.{width_bytes}
@@ -16,8 +16,8 @@ use Rattle.fx_cpu.specs.declared.need.Need.TheVariants as needs
 use Rattle.fx_image.specs.Layout.{stack_low, stack_bytes, stack_count}
 use Rattle.fx_image.specs.declared.forms.Image.{Image}
 use Rattle.fx_machine_model.specs.Layout.{page_entry, is_ept, owner_of, private_key}
-use Rattle.fx_machine_model.specs.Moves.{World, perform, perform_need, checked, read, write, device_at}
-use Rattle.fx_machine_model.proofs.Pages.{Fits}
+use Rattle.fx_machine_model.specs.Moves.{World, perform, perform_need, checked, read, read_device, write, device_at}
+use Rattle.fx_machine_model.specs.Standing.{Fits}
 use Rattle.fx_machine_model.proofs.Regions.{register_address, device_register, use_register, low_key, device_stack, use_stack}
 
 some_width : (width : Width) → width_bytes width ≢ 0
@@ -81,3 +81,23 @@ module _ (image : Image) (vcpu : ℕ) (i : Inst) (len : ℕ) (r : Regs) (w : Wor
         let reg : register_address device register % 4096 / 8 ≡ register = omega arith in
         writes W64 (register_address device register) v (Some device) e (use_register image vcpu device register r.pkru Write f single small few kind free) (device_register image vcpu device register f single small few)
         ∙ ap (λ n. let op : DeviceOp = record { device = device; reg = n; write = true; value = v } in Goes (op ∷ []) (finish i (past r len) 0, w)) reg
+
+    -- a load of a device's register takes the next answer
+    pub asks_register : (device register answer : ℕ) (rest : List ℕ) → need i (past r len) ≡ needs.Reads W64 (register_address device register)
+        → device < 16 → register < 512 → is_locked r.pkru (private_key image (owner_of image device)) Read ≡ false → w.answers ≡ answer ∷ rest
+        → perform image vcpu i len r w ≡ Goes (record { device = device; reg = register; write = false; value = answer } ∷ []) (finish i (past r len) answer, record w { answers = rest })
+    asks_register device register answer rest e small few free next =
+        let kind : Read ≢ Fetch = λ x. cc in
+        let reg : register_address device register % 4096 / 8 ≡ register = omega arith in
+        reads W64 (register_address device register) (Some device) e (use_register image vcpu device register r.pkru Read f single small few kind free) (device_register image vcpu device register f single small few)
+        ∙ ap (read_device i len r w device (register_address device register)) next
+        ∙ ap (λ n. let op : DeviceOp = record { device = device; reg = n; write = false; value = answer } in Goes (op ∷ []) (finish i (past r len) answer, record w { answers = rest })) reg
+
+    -- where no answer is left it changes nothing
+    pub waits_register : (device register : ℕ) → need i (past r len) ≡ needs.Reads W64 (register_address device register)
+        → device < 16 → register < 512 → is_locked r.pkru (private_key image (owner_of image device)) Read ≡ false → w.answers ≡ []
+        → perform image vcpu i len r w ≡ Goes [] (r, w)
+    waits_register device register e small few free none =
+        let kind : Read ≢ Fetch = λ x. cc in
+        reads W64 (register_address device register) (Some device) e (use_register image vcpu device register r.pkru Read f single small few kind free) (device_register image vcpu device register f single small few)
+        ∙ ap (read_device i len r w device (register_address device register)) none

@@ -8,3 +8,6 @@ pub mod Placing
 pub mod Bounds
 pub mod Bytes
 pub mod Writing
+pub mod Ways
+pub mod ByRegion
+pub mod Spaces

@@ -8,7 +8,7 @@ use Rattle.fx_image.specs.Layout.{code_start}
 use Rattle.fx_image.specs.declared.forms.Image.{Image}
 use Rattle.fx_machine_model.specs.Layout.{first_of}
 use Rattle.fx_machine_model.specs.Boot.{boot_byte, byte_from, object_byte, idle_byte}
-use Rattle.fx_machine_model.proofs.Standing.{HoldsCode, StandsAt}
+use Rattle.fx_machine_model.specs.Standing.{HoldsCode, StandsAt}
 
 -- what stands between a front and a rest
 pub stands_whole : (front bytes rest : List ℕ) → StandsAt (front ++ (bytes ++ rest)) (length front) bytes

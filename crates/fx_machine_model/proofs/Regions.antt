@@ -8,18 +8,23 @@ use Rattle.fx_vm_pages.specs.declared.access.Access.{Access}
 use Rattle.fx_vm_pages.specs.declared.access.Access.TheVariants.{Read, Write, Fetch}
 use Rattle.fx_image.specs.Layout.{code_start, has_halves, stack_low, stack_bytes, stack_span, stack_count}
 use Rattle.fx_image.specs.declared.forms.Image.{Image}
-use Rattle.fx_machine_model.specs.Layout.{page_entry, mapped, is_ept, owner_of, private_key, common_key, low_half, stack_compartment}
+use Rattle.fx_machine_model.specs.Layout.{page_entry, maps_code, mapped, is_ept, owner_of, private_key, common_key, low_half, stack_compartment}
 use Rattle.fx_machine_model.specs.Moves.{device_at}
+use Rattle.fx_machine_model.specs.Standing.{Fits}
 use Rattle.fx_machine_model.proofs.Checks.{check_page, check_region}
-use Rattle.fx_machine_model.proofs.Pages.{Fits, code_page, maps_all, device_page, stack_low_page}
+use Rattle.fx_machine_model.proofs.Pages.{code_page, maps_all, device_page, stack_low_page}
 
--- A byte of the code is fetched, whatever PKRU holds.
-pub fetch_code : (image : Image) (space : ℕ) (pkru : Pkru) (offset : ℕ) → Fits image → is_ept image ≡ false → offset < length image.code → access_check (page_entry image space) pkru Fetch (code_start + offset) 1 ≡ None
-fetch_code image space pkru offset f h lt =
+-- A byte of code that the space maps is fetched, whatever PKRU holds.
+pub fetch_mapped : (image : Image) (space : ℕ) (pkru : Pkru) (offset : ℕ) → Fits image → offset < length image.code → maps_code image space ((page_of (code_start + offset) - 0x400) * 4096) ≡ true → access_check (page_entry image space) pkru Fetch (code_start + offset) 1 ≡ None
+fetch_mapped image space pkru offset f lt maps =
     let c = f.code in
     let page = page_of (code_start + offset) in
-    let is : page_entry image space page ≡ mapped page 2 0 = code_page image space page (omega arith) (omega arith) (maps_all image space ((page - 0x400) * 4096) h) in
+    let is : page_entry image space page ≡ mapped page 2 0 = code_page image space page (omega arith) (omega arith) maps in
     check_page (page_entry image space) pkru Fetch (code_start + offset) 1 (record { frame = page; flags = record { 0 = 2 }; key = 0 }) (omega arith) (omega arith) is refl
+
+-- Where there is one address space, it maps all code.
+pub fetch_code : (image : Image) (space : ℕ) (pkru : Pkru) (offset : ℕ) → Fits image → is_ept image ≡ false → offset < length image.code → access_check (page_entry image space) pkru Fetch (code_start + offset) 1 ≡ None
+fetch_code image space pkru offset f h lt = fetch_mapped image space pkru offset f lt (maps_all image space ((page_of (code_start + offset) - 0x400) * 4096) h)
 
 -- The address of a device's register.
 abbrev pub register_address : ℕ → ℕ → ℕ

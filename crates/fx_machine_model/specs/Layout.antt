@@ -20,6 +20,14 @@ first_of (Some x ∷ rest) = Some x
 abbrev pub is_ept : Image → Bool
 is_ept image = image.mechanism == 3
 
+-- The number of a compartment's address space.
+abbrev pub space_of : Image → ℕ → ℕ
+space_of image c = if is_ept image then c else 0
+
+-- Whether a space maps what is a compartment's own.
+abbrev pub holds : Image → ℕ → ℕ → Bool
+holds image space c = not (is_ept image) || (space == c)
+
 -- ---- entries
 
 -- A page whose frame has its own number, with its flags (WRITE 1, EXEC 2, DEVICE 4) and its key.
@@ -88,7 +96,7 @@ owner_of image device = slice_index image.owners device
 abbrev pub device_entry : Image → ℕ → ℕ → Option Entry
 device_entry image space page =
     let owner = owner_of image (page - 0xf100) in
-    if nat_le 0xf100 page && nat_lt page 0xf110 && (not (is_ept image) || (space == owner)) then mapped page 5 (private_key image owner) else None
+    if nat_le 0xf100 page && nat_lt page 0xf110 && holds image space owner then mapped page 5 (private_key image owner) else None
 
 -- ---- sections, from 10000000 on
 
@@ -129,11 +137,16 @@ stack_page image space k place page =
     else if nat_lt place (2 * stack_bytes image) then high_half image page
     else None
 
+-- The stack that a page is of, and how far behind its low half's start the page begins.
+abbrev pub stack_of : Image → ℕ → ℕ
+stack_of image page = (page * 4096 - first_stack) / stack_span image
+
+abbrev pub place_of : Image → ℕ → ℕ
+place_of image page = (page * 4096 - first_stack) % stack_span image
+
 abbrev pub stack_entry : Image → ℕ → ℕ → Option Entry
 stack_entry image space page =
-    let at = page * 4096 - first_stack in
-    let k = at / stack_span image in
-    if nat_le first_stack (page * 4096) && nat_lt k (stack_count image) then stack_page image space k (at % stack_span image) page else None
+    if nat_le first_stack (page * 4096) && nat_lt (stack_of image page) (stack_count image) then stack_page image space (stack_of image page) (place_of image page) page else None
 
 -- ---- the whole
 

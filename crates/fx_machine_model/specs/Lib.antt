@@ -4,3 +4,5 @@ pub mod Regions
 pub mod Moves
 pub mod Turns
 pub mod Running
+pub mod Standing
+pub mod Touches

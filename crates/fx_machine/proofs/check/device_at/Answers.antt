@@ -1,5 +1,5 @@
 use Rattle.std.proofs.Common.{arith, sym, ◌∙◌, ◌/◌}
-use Rattle.fx_machine.proofs.ByPlace.{device_pages}
+use Rattle.fx_machine.proofs.Entries.{device_pages}
 use Rattle.fx_machine.proofs.check.device_at.Goals as goal
 
 pub overflow_sub-result : goal.overflow_sub-result
