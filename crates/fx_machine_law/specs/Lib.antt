@@ -1,0 +1,4 @@
+pub mod Kept
+pub mod Code
+pub mod Pkru
+pub mod Steps
