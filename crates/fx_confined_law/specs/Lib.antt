@@ -1,0 +1,3 @@
+pub mod Confined
+pub mod Machines
+pub mod Premises
