@@ -19,7 +19,7 @@ use Rattle.fx_c_mean_blocks.specs.declared.block.Object.{Object}
 use Rattle.fx_c_mean_blocks.specs.declared.fault.Fault.{Fault}
 use Rattle.fx_c_mean_blocks.specs.declared.fault.Fault.TheVariants as fault
 use Rattle.fx_c_mean_blocks.specs.Integers.{number, converted}
-use Rattle.fx_c_mean_blocks.specs.Blocks.{byte_read, cells_of, width, offset_in, loaded, writable, written, without, moved}
+use Rattle.fx_c_mean_blocks.specs.Blocks.{byte_read, cells_of, width, object_in, offset_in, loaded, writable, written, without, moved}
 use Rattle.fx_c_mean_blocks.specs.Operators.{elements, difference, pointer_result, integers, unary_result}
 use Rattle.fx_c_mean_model.specs.declared.end.End.{End}
 use Rattle.fx_c_mean_model.specs.declared.end.End.TheVariants.{Exit, Denied, StackFull, BadThread, ThreadsFull, Undefined}
@@ -146,7 +146,7 @@ pushes s place stack x = checked x (λ v. goes_to s (place + 1) (word_of v ∷ s
 abbrev pub allowed : Program → Rights → State → Value → Bool → Place → Outcome → Outcome
 allowed p r s v write place done =
     if may p r (home p r s.call.function) place write then done
-    else Stops [] (Denied (home p r s.call.function) place (offset_in v) write)
+    else Stops [] (Denied (home p r s.call.function) (object_in v) (offset_in v) write)
 
 abbrev pub loads : Program → Rights → State → ℕ → List Value → TyTree → Value → Outcome
 loads p r s place stack ty v = checked (loaded s.memory ty v) (λ x. allowed p r s v false x.1 (goes_to s (place + 1) (word_of x.0 ∷ stack)))

@@ -3,3 +3,4 @@ pub mod Waiting
 pub mod Inputs
 pub mod Known
 pub mod Merged
+mod Ending

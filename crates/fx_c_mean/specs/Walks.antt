@@ -6,7 +6,9 @@ use Rattle.fx_device.specs.Rules.{Request, load, store}
 use Rattle.fx_device.specs.Bus.{BusState, Carries}
 use Rattle.fx_device.specs.declared.bus_error.BusError.{BusError}
 use Rattle.fx_device.specs.declared.bus_error.BusError.TheVariants.{Device, OutOfMemory}
+use Rattle.fx_c_mean_blocks.specs.declared.block.Object.{Object}
 use Rattle.fx_c_mean_blocks.specs.declared.value.Value.TheVariants.{Number}
+use Rattle.fx_c_mean_blocks.specs.Blocks.{declared_at}
 use Rattle.fx_c_mean_model.specs.declared.end.End.{End}
 use Rattle.fx_c_mean_model.specs.declared.end.End.TheVariants as end
 use Rattle.fx_c_mean_model.specs.declared.rights.Rights.{Rights}
@@ -29,15 +31,15 @@ pub record Run : Type 0 where
   pub cost : ℕ
   pub finish : Option End
 
--- The answer that an end is.
-abbrev pub walk_of : End → Walk
-walk_of (end.Exit v) = walk.Exit v
-walk_of (end.Denied compartment object offset write) = walk.Denied compartment object offset write
-walk_of (end.StackFull thread stack) = walk.StackFull thread stack
-walk_of end.Divide = walk.Divide
-walk_of end.BadThread = walk.BadThread
-walk_of end.ThreadsFull = walk.ThreadsFull
-walk_of end.Undefined = walk.Undefined
+-- The answer that an end is; of the object of a denial it tells the declaration, which stands in memory.
+abbrev pub walk_of : List Object → End → Walk
+walk_of memory (end.Exit v) = walk.Exit v
+walk_of memory (end.Denied compartment object offset write) = walk.Denied compartment (declared_at memory object) offset write
+walk_of memory (end.StackFull thread stack) = walk.StackFull thread stack
+walk_of memory end.Divide = walk.Divide
+walk_of memory end.BadThread = walk.BadThread
+walk_of memory end.ThreadsFull = walk.ThreadsFull
+walk_of memory end.Undefined = walk.Undefined
 
 -- A cost with that of one step more; it stays at 2 ^ 64 - 1 once it is there.
 abbrev pub more_cost : ℕ → ℕ → ℕ
@@ -73,11 +75,12 @@ pub record GoesOn (before : Run) (answer : ℕ) (result : Walk) (after : Run) : 
   pub says : result ≡ says made
   pub same : after ≡ record before { state = after.state; bus = after.bus; cost = more_cost before.cost (extra before.program before.state) }
 
--- The step was made and ended the run. The state is looked at no more.
+-- The step was made and ended the run. Of the state only that is looked at any more which the answer tells.
 pub record Finishes (before : Run) (result : Walk) (after : Run) : Type 0 where
   pub with_end : End
   pub step : (answer : ℕ) → step before.program before.rights answer before.state ≡ Stops [] with_end
-  pub says : result ≡ walk_of with_end
+  pub says : result ≡ walk_of before.state.memory with_end
+  pub again : walk_of after.state.memory with_end ≡ result
   pub same : after ≡ record before { state = after.state; cost = more_cost before.cost (extra before.program before.state); finish = Some with_end }
 
 -- What a request of a device asks for, and where.
@@ -128,7 +131,7 @@ MakesStep before result after = Finishes before result after
 
 -- An end is answered again.
 abbrev pub Walked : Run → Walk → Run → Type 0
-Walked before result after = MatchOption before.finish (MakesStep before result after) (λ e. (result ≡ walk_of e) × (after ≡ before))
+Walked before result after = MatchOption before.finish (MakesStep before result after) (λ e. (result ≡ walk_of before.state.memory e) × (after ≡ before))
 
 -- The run waits for an answer to a load of the console.
 pub record Waits (run : Run) : Type 0 where

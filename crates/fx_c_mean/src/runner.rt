@@ -21,6 +21,7 @@ use fx_c_mean_acts::state::Core;
 use fx_c_mean_acts::steps::Step;
 use fx_c_mean_acts::uses::StackUse;
 use fx_c_mean_blocks::block::Place;
+use fx_c_mean_blocks::memory::Memory;
 use fx_c_mean_blocks::value::Value;
 use fx_c_mean_model::end::End;
 use fx_c_mean_model::rights::Rights;
@@ -40,7 +41,7 @@ pub enum Walk {
     Output(u8),
     /// `main` returned; its value extended to 64 bits, as a signed number.
     Exit(i64),
-    /// The first access that its compartment is not granted.
+    /// The first access that its compartment is not granted. Of its object the declaration is told.
     Denied {
         compartment: u8,
         object: Place,
@@ -66,9 +67,9 @@ pub enum Walk {
     OutOfMemory,
 }
 
-/// The answer that an end is.
-fn walk_of(end: End) -> Walk
-    ensures { result ≡ walk_at end }
+/// The answer that an end is: of the object of a denial its declaration, which stands in memory.
+fn walk_of(memory: &Memory, end: End) -> Walk
+    ensures { result ≡ walk_at memory.now end }
 {
     match end {
         End::Exit(value) => Walk::Exit(value),
@@ -79,7 +80,7 @@ fn walk_of(end: End) -> Walk
             write,
         } => Walk::Denied {
             compartment,
-            object,
+            object: memory.declared_at(object),
             offset,
             write,
         },
@@ -155,7 +156,7 @@ impl<'p> Runner<'p> {
         ensures law { (first : List (Option Meaning)) → BusLaw first (bus_state (λ d. (⟦<dyn Device as Device>⟧ d.vtable).meaning d.value) self.old.bus.boxes self.old.bus.transcript.items) → BusLaw first (bus_state (λ d. (⟦<dyn Device as Device>⟧ d.vtable).meaning d.value) self.new.bus.boxes self.new.bus.transcript.items) }
     {
         match self.end {
-            Some(end) => walk_of(end),
+            Some(end) => walk_of(&self.core.memory, end),
             None => self.go_on(),
         }
     }
@@ -173,7 +174,7 @@ impl<'p> Runner<'p> {
             Step::Stopped(end, extra) => {
                 self.cost = more_cost(self.cost, extra);
                 self.end = Some(end);
-                walk_of(end)
+                walk_of(&self.core.memory, end)
             }
             Step::Loads { device, register } => self.load(device, register),
             Step::Stores {
@@ -285,6 +286,13 @@ impl<'p> Runner<'p> {
         ensures { result ≡ self.now.cost }
     {
         self.cost
+    }
+
+    /// How the run ended, if it has.
+    pub fn end(&self) -> Option<End>
+        ensures { result ≡ self.now.end }
+    {
+        self.end
     }
 
     /// Drops the box of a device, and answers whether it was there.

@@ -3,3 +3,4 @@ pub mod Callers
 pub mod Rounds
 pub mod Woken
 pub mod Steady
+mod Denied

@@ -10,7 +10,7 @@ use Rattle.fx_c_mean_blocks.specs.declared.value.Value.TheVariants.{Void, Number
 use Rattle.fx_c_mean_blocks.specs.declared.value.Cell.{Cell}
 use Rattle.fx_c_mean_blocks.specs.declared.block.Place.{Place}
 use Rattle.fx_c_mean_blocks.specs.declared.fault.Fault.{Fault}
-use Rattle.fx_c_mean_blocks.specs.Blocks.{width, byte_read, loaded, writable, offset_in, cells_of, written, moved}
+use Rattle.fx_c_mean_blocks.specs.Blocks.{width, byte_read, loaded, writable, object_in, offset_in, cells_of, written, moved}
 use Rattle.fx_c_mean_blocks.specs.Operators.{unary_result, conversion, binary_result}
 use Rattle.fx_c_mean_model.specs.declared.end.End.TheVariants.{Denied, StackFull, ThreadsFull}
 use Rattle.fx_c_mean_model.specs.declared.rights.Rights.{Rights}
@@ -182,7 +182,7 @@ value p r k n (Ok a) go h = h a
 value p r k n (Err e) go h = tt
 
 access_granted : (p : Program) (r : Rights) (k n : ℕ) (s : State) (v : Value) (write : Bool) (place : Place) (done : Outcome) → After p r k n done → After p r k n (granted p r s v write place done)
-access_granted p r k n s v write place done h = either (After p r k n) (may p r (actor p r s) place write) done (Stops [] (Denied (actor p r s) place (offset_in v) write)) h (tt {0})
+access_granted p r k n s v write place done h = either (After p r k n) (may p r (actor p r s) place write) done (Stops [] (Denied (actor p r s) (object_in v) (offset_in v) write)) h (tt {0})
 
 stored : (p : Program) (r : Rights) (k n : ℕ) (s : State) (to : Value) (bytes : ℕ) (cells : List Cell) (next : Spot) → HasUse p r k n next → After p r k n (stores p r s to bytes cells next)
 stored p r k n s to bytes cells next h = value p r k n (writable s.memory to bytes) _

@@ -6,7 +6,7 @@ use Rattle.fx_c_mean_blocks.specs.declared.block.Place.{Place}
 use Rattle.fx_c_mean_blocks.specs.declared.block.Object.{Object}
 use Rattle.fx_c_mean_blocks.specs.declared.value.Cell.{Cell}
 use Rattle.fx_c_mean_blocks.specs.declared.value.Value.{Value}
-use Rattle.fx_c_mean_blocks.specs.Blocks.{offset_in, cells_of}
+use Rattle.fx_c_mean_blocks.specs.Blocks.{object_in, offset_in, cells_of}
 use Rattle.fx_c_mean_model.specs.declared.end.End.{End}
 use Rattle.fx_c_mean_model.specs.declared.end.End.TheVariants.{Denied}
 use Rattle.fx_c_mean_model.specs.declared.rights.Rights.{Rights}
@@ -20,7 +20,7 @@ use Rattle.fx_c_mean_control.specs.declared.frames.Act.{Act}
 use Rattle.fx_c_mean_control.specs.declared.frames.Frame.{Frame as RunFrame}
 use Rattle.fx_c_mean_control.specs.declared.frames.Frame.TheVariants as frame
 use Rattle.fx_c_mean_control.specs.declared.frames.Call.{Call as RunCall}
-use Rattle.fx_c_mean_control.specs.declared.frames.Act.TheVariants.{Ask, Tell}
+use Rattle.fx_c_mean_control.specs.declared.frames.Act.TheVariants.{Ask, Tell, Load, Store, ReadByte, WriteByte}
 use Rattle.fx_c_mean_acts.specs.declared.state.Thread.{Thread}
 use Rattle.fx_c_mean_acts.specs.declared.state.Thread.TheVariants as thread
 use Rattle.fx_c_mean_acts.specs.declared.state.Core.{Core}
@@ -43,7 +43,23 @@ Comes outcome moved.OutOfMemory before after = after ≡ before
 
 -- the end of the run where an access is not granted
 abbrev pub denied : Program → Rights → State → Value → Bool → Place → Option End
-denied p r s v write place = if may p r (steps.actor p r s) place write then None else Some (Denied (steps.actor p r s) place (offset_in v) write)
+denied p r s v write place = if may p r (steps.actor p r s) place write then None else Some (Denied (steps.actor p r s) (object_in v) (offset_in v) write)
+
+-- Memory after a denial is memory before it, so that the declaration of its object can be read off it.
+abbrev pub Keeps : End → List Object → List Object → Type 0
+Keeps e before after = (compartment object offset : ℕ) (write : Bool) → e ≡ Denied compartment object offset write → after ≡ before
+
+abbrev pub KeepsWhereDenied : Moved → List Object → List Object → Type 0
+KeepsWhereDenied (moved.Stopped e) before after = Keeps e before after
+KeepsWhereDenied _ before after = Unit {0}
+
+-- the same of a step that accesses memory; no other is denied
+abbrev pub KeepsByAccess : Act → Moved → List Object → List Object → Type 0
+KeepsByAccess (Load ty v) m before after = KeepsWhereDenied m before after
+KeepsByAccess (Store ty to v) m before after = KeepsWhereDenied m before after
+KeepsByAccess (ReadByte ty to v done) m before after = KeepsWhereDenied m before after
+KeepsByAccess (WriteByte ty to v done cell) m before after = KeepsWhereDenied m before after
+KeepsByAccess _ m before after = Unit {0}
 
 -- a step that makes no operation on a device
 abbrev pub NeedsNoDevice : Act → Type 0

@@ -7,14 +7,14 @@ ghost use Rattle.fx_c_mean_model.specs.Programs.{program_of};
 ghost use Rattle.fx_c_mean_model.specs.States.{follow, Frame as MeantFrame};
 ghost use Rattle.fx_c_mean_model.specs.Steps.{loads, stores, reads_byte, next_byte as follows_byte, further as goes_on};
 ghost use Rattle.fx_c_mean_control.specs.Views.{frames_of, spot_of};
-ghost use Rattle.fx_c_mean_acts.specs.Cores.{state_of, denied, Comes};
+ghost use Rattle.fx_c_mean_acts.specs.Cores.{state_of, denied, Comes, KeepsWhereDenied};
 
 use crate::source::Source;
 use crate::state::{Core, Moved, end_of};
 use fx_c_ast::checked::Ty;
 use fx_c_mean_blocks::block::Place;
 use fx_c_mean_blocks::cells::width_of_type;
-use fx_c_mean_blocks::memory::offset_of;
+use fx_c_mean_blocks::memory::{object_of, offset_of};
 use fx_c_mean_blocks::value::{Cell, Pointer, Value};
 use fx_c_mean_control::code::{home_of, is_granted};
 use fx_c_mean_control::frames::{Act, Now};
@@ -31,7 +31,7 @@ impl<'p> Core<'p> {
         }
         Some(End::Denied {
             compartment,
-            object: place,
+            object: object_of(v),
             offset: u64::from(offset_of(v)),
             write,
         })
@@ -39,7 +39,8 @@ impl<'p> Core<'p> {
 
     /// A load of a type.
     pub fn load(&mut self, source: &Source<'p>, ty: &Ty, v: Value) -> Moved
-        ensures { Comes (loads (program_of source.now.program.now) source.now.rights (state_of self.old) (frames_of self.old.frames) (ty_tree ty.now) v) result (state_of self.old) (state_of self.new) }
+        ensures comes { Comes (loads (program_of source.now.program.now) source.now.rights (state_of self.old) (frames_of self.old.frames) (ty_tree ty.now) v) result (state_of self.old) (state_of self.new) }
+        ensures denied { KeepsWhereDenied result self.old.memory self.new.memory }
     {
         match self.memory.load(ty, v) {
             Ok((w, place)) => match self.denial(source, v, false, place) {
@@ -52,7 +53,8 @@ impl<'p> Core<'p> {
 
     /// A store of a value of a type.
     pub fn store(&mut self, source: &Source<'p>, ty: &Ty, to: Value, v: Value) -> Moved
-        ensures { Comes (stores (program_of source.now.program.now) source.now.rights (state_of self.old) to (width (ty_tree ty.now)) (cells_of (width (ty_tree ty.now)) v) (follow (frames_of self.old.frames))) result (state_of self.old) (state_of self.new) }
+        ensures comes { Comes (stores (program_of source.now.program.now) source.now.rights (state_of self.old) to (width (ty_tree ty.now)) (cells_of (width (ty_tree ty.now)) v) (follow (frames_of self.old.frames))) result (state_of self.old) (state_of self.new) }
+        ensures denied { KeepsWhereDenied result self.old.memory self.new.memory }
     {
         let n = width_of_type(ty);
         match self.memory.writable(to, n) {
@@ -77,7 +79,8 @@ impl<'p> Core<'p> {
         v: Value,
         done: u32,
     ) -> Moved
-        ensures { Comes (reads_byte (program_of source.now.program.now) source.now.rights (state_of self.old) (frames_of self.old.frames) (ty_tree ty.now) to v done) result (state_of self.old) (state_of self.new) }
+        ensures comes { Comes (reads_byte (program_of source.now.program.now) source.now.rights (state_of self.old) (frames_of self.old.frames) (ty_tree ty.now) to v done) result (state_of self.old) (state_of self.new) }
+        ensures denied { KeepsWhereDenied result self.old.memory self.new.memory }
     {
         let Some(from) = further(v, done) else {
             return Moved::OutOfMemory;
@@ -104,7 +107,8 @@ impl<'p> Core<'p> {
         done: u32,
         cell: Cell,
     ) -> Moved
-        ensures { Comes (stores (program_of source.now.program.now) source.now.rights (state_of self.old) (goes_on to done) 1 (cell ∷ []) (follows_byte (program_of source.now.program.now) (frames_of self.old.frames) (ty_tree ty.now) to v (done + 1))) result (state_of self.old) (state_of self.new) }
+        ensures comes { Comes (stores (program_of source.now.program.now) source.now.rights (state_of self.old) (goes_on to done) 1 (cell ∷ []) (follows_byte (program_of source.now.program.now) (frames_of self.old.frames) (ty_tree ty.now) to v (done + 1))) result (state_of self.old) (state_of self.new) }
+        ensures denied { KeepsWhereDenied result self.old.memory self.new.memory }
     {
         let Some(target) = further(to, done) else {
             return Moved::OutOfMemory;

@@ -9,7 +9,7 @@ ghost use Rattle.fx_c_mean_model.specs.Programs.{program_of, size_in};
 ghost use Rattle.fx_c_mean_model.specs.States.{Does};
 ghost use Rattle.fx_c_mean_model.specs.Steps.{perform, gives, gives_result, member_of, place_of};
 ghost use Rattle.fx_c_mean_control.specs.Views.{act_of, frames_of};
-ghost use Rattle.fx_c_mean_acts.specs.Cores.{state_of, Comes, NeedsNoDevice};
+ghost use Rattle.fx_c_mean_acts.specs.Cores.{state_of, Comes, NeedsNoDevice, KeepsByAccess};
 ghost use Rattle.fx_c_mean_acts.specs.Uses.{IsKnown};
 
 use crate::calls::value_at_end;
@@ -31,7 +31,8 @@ impl<'p> Core<'p> {
     pub fn perform(&mut self, source: &Source<'p>, act: Act<'p>, known: Option<StackUse>) -> Moved
         requires act { NeedsNoDevice act }
         requires known { IsKnown (program_of source.now.program.now) source.now.rights known (frames_of self.old.frames) }
-        ensures { Comes (perform (program_of source.now.program.now) source.now.rights 0 (state_of self.old) (Does (act_of act.entry) (frames_of self.old.frames))) result (state_of self.old) (state_of self.new) }
+        ensures comes { Comes (perform (program_of source.now.program.now) source.now.rights 0 (state_of self.old) (Does (act_of act.entry) (frames_of self.old.frames))) result (state_of self.old) (state_of self.new) }
+        ensures denied { KeepsByAccess act.entry result self.old.memory self.new.memory }
     {
         match act {
             Act::Push(v) => self.give(v),

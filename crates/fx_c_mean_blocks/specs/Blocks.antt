@@ -10,7 +10,7 @@ use Rattle.fx_c_mean_blocks.specs.declared.value.Cell.{Cell}
 use Rattle.fx_c_mean_blocks.specs.declared.value.Cell.TheVariants.{Byte, Part}
 use Rattle.fx_c_mean_blocks.specs.declared.block.Object.{Object}
 use Rattle.fx_c_mean_blocks.specs.declared.block.Place.{Place}
-use Rattle.fx_c_mean_blocks.specs.declared.block.Place.TheVariants.{Literal}
+use Rattle.fx_c_mean_blocks.specs.declared.block.Place.TheVariants.{Global, Literal}
 use Rattle.fx_c_mean_blocks.specs.declared.fault.Fault.{Fault}
 use Rattle.fx_c_mean_blocks.specs.declared.fault.Fault.TheVariants.{Undefined}
 
@@ -94,6 +94,11 @@ abbrev pub reached : List Object → Value → ℕ → Result Object Fault
 reached memory (Address p) n = if_holds p.offset n (slice_get memory p.object)
 reached memory _ n = Err Undefined
 
+-- the object that a value points to, and how many bytes into it; 0 where it points to none
+abbrev pub object_in : Value → ℕ
+object_in (Address p) = p.object
+object_in _ = 0
+
 abbrev pub offset_in : Value → ℕ
 offset_in (Address p) = p.offset
 offset_in _ = 0
@@ -143,6 +148,14 @@ dead_at memory at (Some o) = slice_set memory at (record o { live = false; cells
 abbrev pub without : List Object → ℕ → ℕ → List Object
 without memory from zero = memory
 without memory from (suc n) = without (dead_at memory from (slice_get memory from)) (from + 1) n
+
+-- the declaration that an object is of; where there is none, that of the first global
+abbrev pub declaration_of : Option Object → Place
+declaration_of None = Global 0
+declaration_of (Some o) = o.place
+
+abbrev pub declared_at : List Object → ℕ → Place
+declared_at memory number = declaration_of (slice_get memory number)
 
 -- ---- pointers
 

@@ -2,7 +2,7 @@
 
 ghost use Rattle.std.specs.Prelude.{◌-ℤ◌, ◌≤ℤ◌, ◌-◌, ◌≡◌, ◌+◌, ◌<◌, ◌≤◌, ◌^◌, ◌++◌, ◌∷◌, [], length, OnOk, OnErr, MatchResult, pos, slice_get, option_copied, take};
 ghost use Rattle.fx_c_ast.specs.CheckedTrees.{ty_tree};
-ghost use Rattle.fx_c_mean_blocks.specs.Blocks.{reached, byte_read, loaded, writable, written, cells_of, without, moved, is_comparable, offset_in, dead_at};
+ghost use Rattle.fx_c_mean_blocks.specs.Blocks.{reached, byte_read, loaded, writable, written, cells_of, without, moved, is_comparable, object_in, offset_in, dead_at, declared_at};
 
 use crate::block::{Object, Place};
 use crate::cells::{value, width_of_type};
@@ -64,6 +64,16 @@ impl Memory {
         ensures { option_copied result ≡ slice_get self.now number }
     {
         self.objects.get(number as usize)
+    }
+
+    /// The declaration that an object is of; where there is no such object, that of the first global.
+    pub fn declared_at(&self, number: u32) -> Place
+        ensures { result ≡ declared_at self.now number }
+    {
+        match self.at(number) {
+            Some(object) => object.place,
+            None => Place::Global(0),
+        }
     }
 
     /// The object of an access of n bytes through a value. Undefined through null, at a dead object and
@@ -196,6 +206,17 @@ impl Memory {
             },
             Value::Void | Value::Number(_) => false,
         }
+    }
+}
+
+/// The number of the object that a value points to; 0 for other values.
+#[inline]
+pub fn object_of(v: Value) -> u32
+    ensures { result ≡ object_in v }
+{
+    match v {
+        Value::Address(p) => p.object,
+        Value::Void | Value::Number(_) | Value::Null => 0,
     }
 }
 

@@ -1,7 +1,7 @@
 -- A runner's steps, one after the other, as the run of its program.
 use Rattle.std.proofs.Common.{◌≡◌, ℕ, zero, suc, ◌+◌, ◌-◌, ◌^◌, ◌<◌, ◌≤◌, ◌⊎◌, inl, inr, min, List, [], ◌∷◌, ◌++◌, Some, None, Bool, true, false, refl, ap, sym, ◌∙◌, subst, arith, append_assoc, append-nil}
 use Rattle.std.specs.Prelude.{not, ◌&&◌, IfSome}
-use Rattle.fx_outcomes.specs.Runs.{Next, Goes, Stops, before, act, later, nothing, within}
+use Rattle.fx_outcomes.specs.Runs.{Next, Goes, Stops, before, act, later, within}
 use Rattle.fx_outcomes.specs.Runs as runs
 use Rattle.fx_outcomes.proofs.Follows.{nat_split}
 use Rattle.fx_base.specs.declared.device_op.DeviceOp.{DeviceOp}
@@ -11,12 +11,12 @@ use Rattle.fx_c_mean_model.specs.declared.rights.Rights.{Rights}
 use Rattle.fx_c_mean_model.specs.Laws.{IsNoDenial, IsNotDenied}
 use Rattle.fx_c_mean_model.specs.Programs.{Program}
 use Rattle.fx_c_mean_model.specs.Steps.{State, Outcome, extra, step}
-use Rattle.fx_c_mean_model.specs.Expected.{Run as SourceRun, advance, with_answers, asks, run_step}
+use Rattle.fx_c_mean_model.specs.Expected.{Run as SourceRun, advance, with_answers, asks, run_step, started, run_after}
 use Rattle.fx_c_mean_model.proofs.Every.{every_step}
 use Rattle.fx_c_mean_model.proofs.Denials.{none_denied, plain}
 use Rattle.fx_c_mean.specs.declared.runner.Walk.{Walk}
 use Rattle.fx_c_mean.specs.Walks.{Run, GoesOn, Finishes, first_run, more_cost}
-use Rattle.fx_c_mean_law.specs.Counting.{answers_of, started, cost_of, is_fed, run_after}
+use Rattle.fx_c_mean_law.specs.Counting.{answers_of, cost_of, is_fed}
 use Rattle.fx_c_mean_law.specs.Reached.{here, onward, Reached, BegunBelow, Came}
 use Rattle.fx_c_mean_law.specs.Laws.{Advances}
 use Rattle.fx_c_mean_law.proofs.Loads.{stepped, unstarved, stopped, fed_to_end}

@@ -1,21 +1,16 @@
--- A run of the source by the number of its steps: what they cost, whether each load finds an answer, and where
--- they lead.
+-- A run of the source by the number of its steps: what they cost, and whether each load finds an answer.
 use Rattle.std.specs.Prelude.{ℕ, zero, suc, ◌+◌, Bool, true, false, not, ◌&&◌, if◌then◌else◌, List, [], ◌∷◌, ◌++◌}
 use Rattle.fx_base.specs.declared.device_op.DeviceOp.{DeviceOp}
 use Rattle.fx_outcomes.specs.Runs.{later}
 use Rattle.fx_c_mean_model.specs.declared.rights.Rights.{Rights}
 use Rattle.fx_c_mean_model.specs.Programs.{Program}
-use Rattle.fx_c_mean_model.specs.Steps.{extra, first_state}
+use Rattle.fx_c_mean_model.specs.Steps.{extra}
 use Rattle.fx_c_mean_model.specs.Expected.{Run as SourceRun, asks, run_step}
 
 -- the answers that the loads of these operations got, in order
 abbrev pub answers_of : List DeviceOp → List ℕ
 answers_of [] = []
 answers_of (op ∷ ops) = (if op.write then [] else op.value ∷ []) ++ answers_of ops
-
--- a run before its first step
-abbrev pub started : Program → List ℕ → SourceRun
-started p answers = record { state = first_state p; answers = answers }
 
 -- the summed cost of the first n steps; behind an end there are none
 abbrev pub cost_of : Program → Rights → ℕ → SourceRun → ℕ
@@ -34,8 +29,3 @@ is_starved x = asks x.state && lacks x.answers
 abbrev pub is_fed : Program → Rights → ℕ → SourceRun → Bool
 is_fed p r zero x = true
 is_fed p r (suc n) x = not (is_starved x) && later (run_step p r x) true (λ y. is_fed p r n y)
-
--- where the first n steps lead; a run that ended stays before its last step
-abbrev pub run_after : Program → Rights → ℕ → SourceRun → SourceRun
-run_after p r zero x = x
-run_after p r (suc n) x = later (run_step p r x) x (λ y. run_after p r n y)

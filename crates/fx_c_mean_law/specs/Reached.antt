@@ -7,9 +7,9 @@ use Rattle.fx_c_mean_model.specs.declared.end.End.{End}
 use Rattle.fx_c_mean_model.specs.declared.rights.Rights.{Rights}
 use Rattle.fx_c_mean_model.specs.Programs.{Program}
 use Rattle.fx_c_mean_model.specs.Steps.{extra}
-use Rattle.fx_c_mean_model.specs.Expected.{Run as SourceRun, run_step, expected}
+use Rattle.fx_c_mean_model.specs.Expected.{Run as SourceRun, run_step, started, run_after, expected}
 use Rattle.fx_c_mean.specs.Walks.{Run}
-use Rattle.fx_c_mean_law.specs.Counting.{answers_of, started, cost_of, is_fed, run_after}
+use Rattle.fx_c_mean_law.specs.Counting.{answers_of, cost_of, is_fed}
 
 -- a runner's state with answers for the loads that come
 abbrev pub here : Run → List ℕ → SourceRun

@@ -1,5 +1,5 @@
 -- Steps make one operation, and none is denied where everything is granted.
-use Rattle.std.proofs.Common.{◌≡◌, ℕ, Bool, true, false, not, ◌||◌, nat_eq, [], if◌then◌else◌, refl, ap, ◌∙◌, arith, Ok}
+use Rattle.std.proofs.Common.{◌≡◌, ℕ, Bool, true, false, not, ◌||◌, [], if◌then◌else◌, refl, arith, Ok}
 use Rattle.fx_outcomes.specs.Runs.{Stops}
 use Rattle.fx_c_mean_blocks.specs.declared.block.Place.{Place}
 use Rattle.fx_c_mean_blocks.specs.declared.block.Place.TheVariants.{Global, Literal, Local}
@@ -7,9 +7,9 @@ use Rattle.fx_c_mean_blocks.specs.Blocks.{unless_literal}
 use Rattle.fx_c_mean_model.specs.declared.end.End.{End}
 use Rattle.fx_c_mean_model.specs.declared.rights.Rights.{Rights}
 use Rattle.fx_c_mean_model.specs.Programs.{Program}
-use Rattle.fx_c_mean_model.specs.Rights.{may, is_shared}
+use Rattle.fx_c_mean_model.specs.Rights.{may}
 use Rattle.fx_c_mean_model.specs.Steps.{State, Outcome, actor}
-use Rattle.fx_c_mean_model.specs.Laws.{IsOneOperation, IsNotDenied, IsOneCompartment}
+use Rattle.fx_c_mean_model.specs.Laws.{IsOneOperation, IsNotDenied}
 use Rattle.fx_c_mean_model.proofs.Every.{Closed}
 
 chosen : (P : Outcome → Type 0) (b : Bool) (x : Outcome) (e : End) → P x → P (Stops [] e) → P (if b then x else Stops [] e)
@@ -52,23 +52,3 @@ plain p r c (Global n) write g l = unguarded r.guarded _ g
 plain p r c (Literal n) true g l = let h = l refl in cc
 plain p r c (Literal n) false g l = refl
 plain p r c (Local f n) write g l = unguarded_local r.guarded _ _ _ g
-
-member : (b x : Bool) → x ≡ true → not b || x ≡ true
-member true x e = e
-member false x e = refl
-
-own : (a b s x : Bool) → x ≡ true → not a || not b || s || x ≡ true
-own true true true x e = refl
-own true true false x e = e
-own true false s x e = refl
-own false b s x e = refl
-
-same : (n : ℕ) → nat_eq n n ≡ true
-same n = grind arith
-
-pub one : (p : Program) (r : Rights) (c : ℕ) → IsOneCompartment p r c → (place : Place) (write : Bool) → (write ≡ true → unless_literal place ≡ Ok place) → may p r c place write ≡ true
-one p r c o (Global n) true l = member r.guarded _ (o.writers n)
-one p r c o (Global n) false l = member r.guarded _ (o.readers n)
-one p r c o (Literal n) true l = let h = l refl in cc
-one p r c o (Literal n) false l = refl
-one p r c o (Local f n) write l = own r.guarded r.own_stacks (is_shared p f n) _ (ap (nat_eq c) (o.homes f) ∙ same c)

@@ -6,3 +6,5 @@ pub mod Growing
 pub mod Every
 pub mod Denials
 pub mod Writing
+pub mod Accesses
+mod Ending

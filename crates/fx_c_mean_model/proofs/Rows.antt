@@ -5,8 +5,7 @@ use Rattle.fx_c_ast.specs.declared.operator.IntType.TheVariants.{Uint}
 use Rattle.fx_c_ast.specs.declared.operator.Unop.TheVariants.{Neg, Deref, Addr}
 use Rattle.fx_c_ast.specs.declared.operator.Binop.TheVariants.{Add, Sub, Div, Shl, Lt, Eq}
 use Rattle.fx_c_ast.specs.declared.parsed.Init.TheVariants as init
-use Rattle.fx_c_ast.specs.CheckedTrees.{VoidTy, IntTy, PtrTy, TExprTree, ELocal, EGlobal, EUn, EBin, EConvert, ECall, EGate, EPutc, EDevLoad, EDevStore, ESpawn, ESwitch, SEval, SAssign, SLocal, SIf, SFor, NoTStmt, OneTStmt}
-use Rattle.fx_c_mean_blocks.specs.declared.block.Place.TheVariants.{Global, Local}
+use Rattle.fx_c_ast.specs.CheckedTrees.{VoidTy, IntTy, PtrTy, TExprTree, ELocal, EGlobal, EUn, EBin, EConvert, ECall, EGate, EPutc, EDevLoad, EDevStore, ESpawn, ESwitch, MoreTExprs, SEval, SAssign, SLocal, SIf, SFor, NoTStmt, OneTStmt}
 use Rattle.fx_c_mean_model.specs.declared.end.End.TheVariants.{Exit, Denied, StackFull, Divide, BadThread, ThreadsFull}
 use Rattle.fx_c_mean_model.specs.declared.rights.Rights.{Rights}
 use Rattle.fx_c_mean_model.specs.Programs.{Program, Function}
@@ -61,7 +60,7 @@ peeks_by_call : expected peeks (two false false) [] 100 ≡ exits 7
 unfolding peeks through_parameter
 peeks_by_call = refl
 
-peeks_by_keys : expected peeks (two true false) [] 100 ≡ ends [] (Denied 1 (Global 0) 0 false)
+peeks_by_keys : expected peeks (two true false) [] 100 ≡ ends [] (Denied 1 0 0 false)
 unfolding peeks through_parameter
 peeks_by_keys = refl
 
@@ -75,9 +74,29 @@ local_of_a_common_stack : expected peeks_local (two true false) [] 100 ≡ exits
 unfolding peeks_local through_parameter
 local_of_a_common_stack = refl
 
-local_of_its_own_stack : expected peeks_local (two true true) [] 100 ≡ ends [] (Denied 1 (Local 0 0) 0 false)
+local_of_its_own_stack : expected peeks_local (two true true) [] 100 ≡ ends [] (Denied 1 0 0 false)
 unfolding peeks_local through_parameter
 local_of_its_own_stack = refl
+
+-- a: void f(long *p, long n) { long x; x = n; if (n) { f(&x, n - 1); } else { __gate(poke, which); } } void main() { f(0, 1); }
+-- b: __entry void poke(long *p) { *p = 5; }
+pokes : TExprTree → Program
+pokes which = program [] []
+    (function 0 VoidTy 0 [] 32 (SEval (ECall VoidTy 1 (MoreTExprs (EConvert (PtrTy long) (num 0)) (one (to_long (num 1))))) ∷ [])
+    ∷ function 0 VoidTy 2 (PtrTy long ∷ long ∷ long ∷ []) 112
+    (SAssign (ELocal long 2) (ELocal long 1)
+    ∷ SIf (ELocal long 1) (SEval (ECall VoidTy 1 (MoreTExprs (EUn (PtrTy long) Addr (ELocal long 2)) (one (EBin long Sub (ELocal long 1) (to_long (num 1)))))))
+    (OneTStmt (SEval (EGate VoidTy 2 (one which)))) ∷ [])
+    ∷ function 1 VoidTy 1 (PtrTy long ∷ []) 64 (SAssign (EUn long Deref (ELocal (PtrTy long) 0)) (to_long (num 5)) ∷ []) ∷ [])
+
+-- `p` in the second call of f is `x` of the first, which is another object than `x` of the second
+local_of_the_first_call : expected (pokes (ELocal (PtrTy long) 0)) (two true true) [] 200 ≡ ends [] (Denied 1 2 0 true)
+unfolding pokes
+local_of_the_first_call = refl
+
+local_of_the_second_call : expected (pokes (EUn (PtrTy long) Addr (ELocal long 2))) (two true true) [] 200 ≡ ends [] (Denied 1 5 0 true)
+unfolding pokes
+local_of_the_second_call = refl
 
 -- ---- stacks
 

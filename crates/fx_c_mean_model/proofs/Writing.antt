@@ -7,7 +7,7 @@ use Rattle.fx_c_mean_blocks.specs.declared.value.Cell.{Cell}
 use Rattle.fx_c_mean_blocks.specs.declared.block.Place.{Place}
 use Rattle.fx_c_mean_blocks.specs.declared.fault.Fault.{Fault}
 use Rattle.fx_c_mean_blocks.specs.declared.block.Object.{Object}
-use Rattle.fx_c_mean_blocks.specs.Blocks.{width, byte_read, loaded, writable, offset_in, cells_of, written, moved}
+use Rattle.fx_c_mean_blocks.specs.Blocks.{width, byte_read, loaded, writable, object_in, offset_in, cells_of, written, moved}
 use Rattle.fx_c_mean_blocks.specs.Operators.{unary_result, conversion, binary_result}
 use Rattle.fx_c_mean_model.specs.declared.end.End.TheVariants.{Denied, ThreadsFull}
 use Rattle.fx_c_mean_model.specs.Rights.{may}
@@ -31,7 +31,7 @@ value s P (Ok a) go h = h a
 value s P (Err e) go h = tt
 
 access_granted : (p : Program) (r : Rights) (s : State) (P : List Object → Type 0) (v : Value) (write : Bool) (place : Place) (done : Outcome) → After s P done → After s P (granted p r s v write place done)
-access_granted p r s P v write place done h = either (After s P) (may p r (actor p r s) place write) done (Stops [] (Denied (actor p r s) place (offset_in v) write)) h (tt {0})
+access_granted p r s P v write place done h = either (After s P) (may p r (actor p r s) place write) done (Stops [] (Denied (actor p r s) (object_in v) (offset_in v) write)) h (tt {0})
 
 stored : (p : Program) (r : Rights) (s : State) (to : Value) (bytes : ℕ) (cells : List Cell) (next : Spot) → After s (Writes (access true to bytes) s.memory) (stores p r s to bytes cells next)
 stored p r s to bytes cells next = value s (Writes (access true to bytes) s.memory) (writable s.memory to bytes) _

@@ -1,19 +1,20 @@
 -- What the laws of the meaning say.
-use Rattle.std.specs.Prelude.{◌≡◌, ℕ, ◌≤◌, Bool, true, false, List, [], length, Option, Some, None, slice_index}
-use Rattle.fx_outcomes.specs.Runs.{Next, Goes, Stops}
+use Rattle.std.specs.Prelude.{◌≡◌, ℕ, ◌≤◌, Bool, true, false, List, [], length, Option, Some, None, slice_get}
+use Rattle.fx_outcomes.specs.Runs.{Goes, Stops}
 use Rattle.fx_outcomes.specs.Runs as runs
 use Rattle.fx_outcomes.specs.Keeping.{IsPrefix}
 use Rattle.fx_c_mean_blocks.specs.declared.value.Value.{Value}
 use Rattle.fx_c_mean_blocks.specs.declared.value.Cell.{Cell}
 use Rattle.fx_c_mean_blocks.specs.declared.block.Object.{Object}
-use Rattle.fx_c_mean_blocks.specs.Blocks.{width, written}
+use Rattle.fx_c_mean_blocks.specs.Blocks.{width, written, holds}
 use Rattle.fx_c_mean_model.specs.declared.end.End.{End}
 use Rattle.fx_c_mean_model.specs.declared.end.End.TheVariants.{Denied}
 use Rattle.fx_c_mean_model.specs.declared.rights.Rights.{Rights}
 use Rattle.fx_c_mean_model.specs.Programs.{Program}
-use Rattle.fx_c_mean_model.specs.Rights.{home, is_member}
+use Rattle.fx_c_mean_model.specs.Rights.{may}
 use Rattle.fx_c_mean_model.specs.States.{Spot, Does, Load, Store, ReadByte, WriteByte, Enter, Leave, FallOff}
-use Rattle.fx_c_mean_model.specs.Steps.{State, Outcome, further}
+use Rattle.fx_c_mean_model.specs.Steps.{State, Outcome, step, actor, further, place_of}
+use Rattle.fx_c_mean_model.specs.Expected.{state_at}
 
 -- what a run makes at a greater cost: the same operations or more, and the same end where there is one
 pub record Grows {O E : Type 0} (less more : runs.Outcome O E) : Type 0 where
@@ -70,9 +71,30 @@ abbrev pub ChangesByAccess : State → Outcome → Type 0
 ChangesByAccess s (Goes made after) = Writes (access_of s) s.memory after.memory
 ChangesByAccess s (Stops made e) = Unit {0}
 
--- The rights are those of one compartment: each function's home is one compartment, which may read and write
--- each global.
-pub record IsOneCompartment (p : Program) (r : Rights) (c : ℕ) : Type 0 where
-  pub homes : (f : ℕ) → home p r f ≡ c
-  pub readers : (n : ℕ) → is_member c (slice_index r.readers n) ≡ true
-  pub writers : (n : ℕ) → is_member c (slice_index r.writers n) ≡ true
+-- ---- ends
+
+-- A denial is of an access that the step makes: by the function that runs, of bytes that a live object holds, and not
+-- granted to the function's compartment.
+pub record IsOfAccess (p : Program) (r : Rights) (s : State) (compartment object offset : ℕ) (write : Bool) : Type 0 where
+  pub bytes : ℕ
+  pub accesses : access_of s ≡ access write (place_of object offset) bytes
+  pub acts : compartment ≡ actor p r s
+  pub named : Object
+  pub there : slice_get s.memory object ≡ Some named
+  pub held : holds offset bytes named ≡ true
+  pub refused : may p r compartment named.place write ≡ false
+
+abbrev pub EndsByAccess : Program → Rights → State → End → Type 0
+EndsByAccess p r s (Denied compartment object offset write) = IsOfAccess p r s compartment object offset write
+EndsByAccess p r s _ = Unit {0}
+
+-- where the step is denied, it is of an access that it makes
+abbrev pub DeniesAccess : Program → Rights → State → Outcome → Type 0
+DeniesAccess p r s (Goes made after) = Unit {0}
+DeniesAccess p r s (Stops made e) = EndsByAccess p r s e
+
+-- a run comes to an end by a step, made at the state that the steps before it lead to
+pub record IsOfStep (p : Program) (r : Rights) (answers : List ℕ) (e : End) : Type 0 where
+  pub steps : ℕ
+  pub answer : ℕ
+  pub ends : step p r answer (state_at p r answers steps) ≡ Stops [] e

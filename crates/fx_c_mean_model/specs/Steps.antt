@@ -16,7 +16,7 @@ use Rattle.fx_c_mean_model.specs.declared.end.End.{End}
 use Rattle.fx_c_mean_model.specs.declared.end.End.TheVariants.{Exit, Denied, StackFull, Divide, BadThread, ThreadsFull, Undefined}
 use Rattle.fx_c_mean_blocks.specs.Integers.{number, converted}
 use Rattle.fx_c_mean_blocks.specs.declared.block.Object.{Object}
-use Rattle.fx_c_mean_blocks.specs.Blocks.{cells_of, width, offset_in, byte_read, loaded, writable, written, without, moved}
+use Rattle.fx_c_mean_blocks.specs.Blocks.{cells_of, width, object_in, offset_in, byte_read, loaded, writable, written, without, moved}
 use Rattle.fx_c_mean_blocks.specs.Operators.{unary_result, conversion, binary_result}
 use Rattle.fx_c_mean_model.specs.declared.rights.Rights.{Rights}
 use Rattle.fx_c_mean_model.specs.Programs.{Program, function_at, size_in, offset_of, first_memory, call_objects}
@@ -69,7 +69,7 @@ actor p r s = home p r s.call.function
 abbrev pub granted : Program → Rights → State → Value → Bool → Place → Outcome → Outcome
 granted p r s v write place done =
     if may p r (actor p r s) place write then done
-    else Stops [] (Denied (actor p r s) place (offset_in v) write)
+    else Stops [] (Denied (actor p r s) (object_in v) (offset_in v) write)
 
 -- a load: the object must hold the bytes, they must hold a value of the type, and then the read must be
 -- granted

@@ -1,16 +1,15 @@
 //! How a run ends.
 
-use fx_c_mean_blocks::block::Place;
-
 /// The end of a run.
 #[derive(Clone, Copy, Debug, PartialEq, Eq)]
 pub enum End {
     /// `main` returned; its value extended by its type to 64 bits, as a signed number.
     Exit(i64),
-    /// The first access that its compartment is not granted.
+    /// The first access that its compartment is not granted. `object` is the object's number in memory:
+    /// each call has objects of its own, so a local of one call is not that of another.
     Denied {
         compartment: u8,
-        object: Place,
+        object: u32,
         offset: u64,
         write: bool,
     },

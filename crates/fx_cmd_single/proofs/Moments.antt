@@ -1,28 +1,33 @@
 -- A run from its start over each step to its end.
-use Rattle.std.proofs.Common.{◌≡◌, ℕ, ◌+◌, ◌-◌, ◌^◌, ◌≤◌, ◌<◌, ◌⊎◌, inl, inr, min, List, [], ◌∷◌, ◌++◌, Option, Some, None, refl, ap, sym, ◌∙◌, subst, arith, append-nil}
+use Rattle.std.proofs.Common.{◌≡◌, ℕ, ◌+◌, ◌-◌, ◌^◌, ◌%◌, ◌≤◌, ◌<◌, ◌⊎◌, inl, inr, min, Bool, true, false, cond, List, [], ◌∷◌, ◌++◌, length, Option, Some, None, refl, ap, sym, ◌∙◌, subst, arith, append-nil}
+use Rattle.std.specs.Prelude.{◌==◌, ◌&&◌}
+use Rattle.std.proofs.lemmas.Bool.Decides.{nat_tests}
 use Rattle.fx_base.specs.declared.device_op.DeviceOp.{DeviceOp}
 use Rattle.fx_base.specs.Faults.{Rose}
 use Rattle.fx_base.specs.Told.{Told}
+use Rattle.fx_outcomes.specs.Runs.{Goes}
 use Rattle.fx_device.specs.Rules.{Meaning}
 use Rattle.fx_device.specs.Bus.{box_of, none}
 use Rattle.fx_c_mean_model.specs.declared.end.End.{End}
 use Rattle.fx_c_mean_model.specs.declared.rights.Rights.{Rights}
 use Rattle.fx_c_mean_model.specs.Programs.{Program}
-use Rattle.fx_c_mean_model.specs.Steps.{State, extra}
-use Rattle.fx_c_mean_model.specs.Expected.{Run as SourceRun}
+use Rattle.fx_c_mean_model.specs.Steps.{State, step, extra}
+use Rattle.fx_c_mean_model.specs.Expected.{Run as SourceRun, started, run_after}
 use Rattle.fx_c_mean.specs.declared.runner.Walk.{Walk}
 use Rattle.fx_c_mean.specs.Walks.{Run, Finishes, first_run, more_cost, Requests, AsksInput}
-use Rattle.fx_c_mean_law.specs.Counting.{answers_of, started, cost_of, run_after}
+use Rattle.fx_c_mean_law.specs.Counting.{answers_of, cost_of}
 use Rattle.fx_c_mean_law.specs.Reached.{Reached, BegunBelow, Came}
 use Rattle.fx_c_mean_law.proofs.Reaching.{cost_more, stands, comes, begun_last, advances}
 use Rattle.fx_c_mean_law.proofs.Reaching as reaching
 use Rattle.fx_cmd_single.specs.declared.outcome.Outcome.{Outcome}
 use Rattle.fx_cmd_single.specs.declared.outcome.Outcome.TheVariants.{Ended, Spent, Device, ReadFault, WriteFault, OutOfMemory}
-use Rattle.fx_cmd_single.specs.Streams.{outputs, inputs, Reads, Gained, GainedButLast, Same, LostOne}
+use Rattle.fx_cmd_base.specs.Streams.{Gained}
+use Rattle.fx_cmd_single.specs.Streams.{outputs, inputs, Reads, GainedButLast, Same, LostOne}
 use Rattle.fx_cmd_single.specs.Devices.{Part, Devices}
-use Rattle.fx_cmd_single.specs.Ran.{end_of, state_after, HasCause, RunsTo, Output, Input}
+use Rattle.fx_cmd_single.specs.Ran.{end_of, state_after, HasCause, HasStepLeft, PutsLast, RunsTo, Output, Input}
 use Rattle.fx_cmd_single.specs.Stepping.{WentOn, EndsBy}
 use Rattle.fx_cmd_single.proofs.Telling.{told_same, told_join, outputs-append, inputs-append, reads-append, gained-append}
+use Rattle.fx_cmd_single.proofs.Stepped.{one_made}
 use Rattle.fx_cmd_single.proofs.Serving.{devices_first, devices_made, parts, fails, fault_kept}
 
 abbrev Tale : Type 0
@@ -77,9 +82,9 @@ module _ (p : Program) (r : Rights) (budget : ℕ) (boxes : List (Option Meaning
   T = run.bus.transcript
 
   -- no further step was made
-  pub ran_here : (input read out put : ℕ) (outcome : Outcome) (cost : ℕ) (now : List DeviceOp) → cost ≡ run.cost → now ≡ T → None ≡ end_of outcome → (outcome ≡ Spent → budget ≤ run.cost) → HasCause p r boxes h.n T input read out put outcome
+  pub ran_here : (input read out put : ℕ) (outcome : Outcome) (cost : ℕ) (now : List DeviceOp) → cost ≡ run.cost → now ≡ T → None ≡ end_of outcome → (outcome ≡ Spent → budget ≤ run.cost) → HasStepLeft outcome run.cost budget → HasCause p r boxes h.n T input read out put outcome
       → RunsTo p r budget boxes input read out put outcome cost now
-  ran_here input read out put outcome cost now dear same no_end over cause =
+  ran_here input read out put outcome cost now dear same no_end over left cause =
       subst (λ c. RunsTo p r budget boxes input read out put outcome c now) (sym dear)
       (subst (RunsTo p r budget boxes input read out put outcome run.cost) (sym same) (record {
         steps = h.n;
@@ -88,6 +93,7 @@ module _ (p : Program) (r : Rights) (budget : ℕ) (boxes : List (Option Meaning
         cost_is = h.reached.cost_is;
         begun = begun_here p r budget h.n T h.begun;
         over = over;
+        left = left;
         devices = parts boxes run.bus h.devices;
         console = h.devices.console;
         cause = cause;
@@ -108,6 +114,36 @@ module _ (p : Program) (r : Rights) (budget : ℕ) (boxes : List (Option Meaning
 
   reads_same : (loses : Tale) → Told Same lost loses → Told (Reads (inputs T)) left loses
   reads_same loses read = told_join (Reads (inputs T)) Same (Reads (inputs T)) (λ x y z g q. subst (Reads (inputs T) x) (sym q) g) left lost loses h.input read
+
+  -- ---- a step that put a byte out
+
+  -- the step was a store to the console
+  is_store : (a b w : Bool) (v byte : ℕ) → cond ((a && b) && w) (v ∷ []) [] ++ [] ≡ byte ∷ [] → (a ≡ true) × (b ≡ true) × (w ≡ true)
+  is_store true true true v byte e = (refl, refl, refl)
+  is_store true true false v byte e = cc
+  is_store true false w v byte e = cc
+  is_store false b w v byte e = cc
+
+  is_zero : (k : ℕ) → (k == 0) ≡ true → k ≡ 0
+  is_zero k e = grind (arith, nat_tests)
+
+  last_put : (made : List DeviceOp) (next : State) (answer byte : ℕ) → step run.program run.rights answer run.state ≡ Goes made next → length made ≤ 1 → outputs made ≡ byte ∷ [] → PutsLast p r (h.n + 1) (T ++ made)
+  last_put [] next answer byte made one puts = cc
+  last_put (op ∷ []) next answer byte made one puts =
+      let s = is_store (op.device == 0) (op.reg == 0) op.write (op.value % 256) byte puts in
+      let own : step p r answer run.state ≡ Goes (op ∷ []) next =
+      ap (λ (q : Program). step q r answer run.state) (sym h.reached.program_is) ∙ ap (λ (q : Rights). step run.program q answer run.state) (sym h.reached.rights_is) ∙ made in
+      record {
+        before = h.n;
+        earlier = T;
+        last = op;
+        steps = refl;
+        order = refl;
+        console = (is_zero op.device s.0, is_zero op.reg s.1);
+        store = s.2;
+        makes = λ answers. (answer, next, ap (step p r answer) (stands_at p r run h.n h.spent h.reached answers) ∙ own);
+      }
+  last_put (op ∷ more ∷ rest) next answer byte made one puts = absurd (omega (arith, one))
 
   module _ (less : run.cost < budget) (fits : budget < 2 ^ 64) where
     -- ---- a step that goes on
@@ -150,6 +186,7 @@ module _ (p : Program) (r : Rights) (budget : ℕ) (boxes : List (Option Meaning
               cost_is = dear;
               begun = begun_here p r budget (h.n + 1) T (begun_last p r run h.n h.spent h.reached k said f budget less fits h.begun);
               over = λ e. cc;
+              left = tt;
               devices = parts boxes run.bus h.devices;
               console = h.devices.console;
               cause = tt;
@@ -165,14 +202,14 @@ module _ (p : Program) (r : Rights) (budget : ℕ) (boxes : List (Option Meaning
           let same : k.bus.transcript ≡ T = fault_kept i faults.request run.bus k.bus faults.failed in
           let f = fails boxes i faults.request run.bus k.bus faults.failed h.devices in
           subst (λ t. Ending (Device i) k.cost t gains loses) (sym same) (record {
-            ran = ran_here i0 i2 o0 o2 (Device i) k.cost T (ap (λ (q : Run). q.cost) faults.same) refl refl (λ e. cc)
+            ran = ran_here i0 i2 o0 o2 (Device i) k.cost T (ap (λ (q : Run). q.cost) faults.same) refl refl (λ e. cc) less
                 (faults.request, (λ answers. subst (λ (s : State). Requests s i faults.request) (sym (stands_at p r run h.n h.spent h.reached answers)) faults.asked), f.0, f.1, f.2, f.3, f.4, f.5);
             output_is = puts_same gains put;
             input_is = reads_same loses read;
           })
       ends ReadFault k gains loses (asks, rose, same, put, read) =
           subst (λ (q : Run). Ending ReadFault q.cost q.bus.transcript gains loses) (sym same) (record {
-            ran = ran_here i0 i2 o0 o2 ReadFault run.cost T refl refl refl (λ e. cc)
+            ran = ran_here i0 i2 o0 o2 ReadFault run.cost T refl refl refl (λ e. cc) less
                 ((λ answers. subst AsksInput (sym (stands_at p r run h.n h.spent h.reached answers)) asks), rose_since i0 i1 i2 in_order rose);
             output_is = puts_same gains put;
             input_is = reads_same loses read;
@@ -190,9 +227,10 @@ module _ (p : Program) (r : Rights) (budget : ℕ) (boxes : List (Option Meaning
               cost_is = a.reached.cost_is;
               begun = begun_here p r budget (h.n + 1) k.bus.transcript (a.begun less fits h.begun);
               over = λ e. cc;
+              left = tt;
               devices = parts boxes k.bus served;
               console = served.console;
-              cause = rose_since o0 o1 o2 out_order rose;
+              cause = (subst (PutsLast p r (h.n + 1)) (sym a.transcript) (last_put went.made k.state answer byte went.step (one_made run k answer said went) puts), rose_since o0 o1 o2 out_order rose);
             };
             output_is = subst (λ t. Told (GainedButLast (outputs t)) taken gains) (sym a.transcript)
                 (told_join (Gained (outputs T)) Same (GainedButLast (outputs (T ++ went.made))) (λ x y z g q. (outputs T, byte, outs, q ∙ g)) taken gained gains h.output put);
@@ -200,7 +238,7 @@ module _ (p : Program) (r : Rights) (budget : ℕ) (boxes : List (Option Meaning
           }
       ends OutOfMemory k gains loses (same, put, read) =
           subst (λ (q : Run). Ending OutOfMemory q.cost q.bus.transcript gains loses) (sym same) (record {
-            ran = ran_here i0 i2 o0 o2 OutOfMemory run.cost T refl refl refl (λ e. cc) tt;
+            ran = ran_here i0 i2 o0 o2 OutOfMemory run.cost T refl refl refl (λ e. cc) tt tt;
             output_is = puts_same gains put;
             input_is = wanted loses read;
           })
@@ -211,7 +249,7 @@ module _ (p : Program) (r : Rights) (budget : ℕ) (boxes : List (Option Meaning
 
   pub all_spent : (i0 i1 o0 o1 : ℕ) → budget ≤ run.cost → Done p r budget boxes taken left i0 o0 Spent run.cost T gained lost i1 o1
   all_spent i0 i1 o0 o1 over = record {
-    ran = ran_here i0 i1 o0 o1 Spent run.cost T refl refl refl (λ e. over) tt;
+    ran = ran_here i0 i1 o0 o1 Spent run.cost T refl refl refl (λ e. over) tt tt;
     output_is = h.output;
     input_is = h.input;
   }
@@ -233,6 +271,7 @@ nothing_ran p r budget boxes taken left i0 i1 o0 o1 cost now free empty =
         cost_is = omega arith;
         begun = λ m lt. absurd (omega (arith, lt));
         over = λ e. cc;
+        left = tt;
         devices = λ d ne. nothing_part (box_of d boxes);
         console = tt;
         cause = tt;

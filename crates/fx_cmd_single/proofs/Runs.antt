@@ -23,9 +23,11 @@ use Rattle.fx_cmd_single.specs.Ran.{RunsTo, Output, Input}
 use Rattle.fx_cmd_single.proofs.Moments.{nothing_ran}
 use Rattle.fx_cmd_single.specs.Verdicts.{IsUndenied, IsCalled}
 use Rattle.fx_cmd_load.specs.declared.program_error.ProgramError.{ProgramError}
-use Rattle.fx_cmd_load.specs.Programs.{IsProgramOf, ProgramCause}
+use Rattle.fx_cmd_load.specs.Reading.{LeavesCount}
+use Rattle.fx_cmd_load.specs.Programs.{IsProgramOf, ProgramCause, ProgramLeaves}
+use Rattle.fx_cmd_base.specs.Streams.{Streams, Untouched}
 use Rattle.fx_cmd_single.specs.Words.{SingleGiven, budget_of}
-use Rattle.fx_cmd_single.specs.Comes.{Streams, RunsMerged, RunsProgram, NotBegun}
+use Rattle.fx_cmd_single.specs.Comes.{RunsMerged, RunsProgram, NotBegun}
 use Rattle.fx_cmd_single.specs.declared.verdict.Verdict.{Verdict}
 use Rattle.fx_cmd_single.specs.declared.verdict.Verdict.TheVariants.{OutOfMemory}
 
@@ -75,15 +77,16 @@ not_merged budget boxes before after k p kept unread =
 
 -- the program of the configuration was run within the budget that the words give
 pub runs_program : (given : SingleGiven) (boxes : List (Option Meaning)) (before after : Streams) (k : Config) (p : TProgram) (budget : ℕ) (verdict : Verdict) → budget ≡ budget_of given
-    → IsProgramOf given.config before.held k p → RunsMerged budget boxes before after k p verdict → RunsProgram given boxes before after verdict
-runs_program given boxes before after k p budget verdict is loaded run = record {
+    → IsProgramOf given.config before.held k p → LeavesCount before.held before.file_faults after.file_faults → RunsMerged budget boxes before after k p verdict → RunsProgram given boxes before after verdict
+runs_program given boxes before after k p budget verdict is loaded counted run = record {
   config = k;
   program = p;
   loaded = loaded;
+  counted = counted;
   run = subst (λ b. RunsMerged b boxes before after k p verdict) is run;
 }
 
 -- there is no checked program, and neither input nor output was touched
 pub not_begun : (given : SingleGiven) (before after : Streams) (error : ProgramError) → ProgramCause given.config before.held before.file_faults after.file_faults error
-    → after.left ≡ before.left → after.taken ≡ before.taken → NotBegun given before after error
-not_begun given before after error why unread kept = record { why = why; input = unread; output = kept }
+    → ProgramLeaves before.held before.file_faults after.file_faults error → Untouched before after → NotBegun given before after error
+not_begun given before after error why counted untouched = record { why = why; counted = counted; untouched = untouched }

@@ -1,8 +1,10 @@
 -- What the status of the command says.
-use Rattle.std.proofs.Common.{◌≡◌, ℕ, List, Option, Result, Ok, Err, inl, inr, sym, ◌∙◌, arith}
+use Rattle.std.proofs.Common.{◌≡◌, ℕ, Result, Ok, Err, inl, inr, sym, ◌∙◌, arith}
 use Rattle.fx_cmd_load.specs.declared.program_error.ProgramError.{ProgramError}
 use Rattle.fx_cmd_load.specs.declared.program_error.ProgramError.TheVariants as program
-use Rattle.fx_cmd_single.specs.Lines.{program_status, came_status}
+use Rattle.fx_cmd_base.specs.ProgramWords.{program_status}
+use Rattle.fx_cmd_base.specs.Ends.{ErrorStream}
+use Rattle.fx_cmd_single.specs.Lines.{came_status}
 use Rattle.fx_cmd_single.specs.Reports.{Reports}
 use Rattle.fx_cmd_single.specs.Verdicts.{status_of}
 use Rattle.fx_cmd_single.specs.declared.verdict.Verdict.{Verdict}
@@ -33,8 +35,8 @@ came_usage : (came : Result Verdict ProgramError) → came_status came ≡ 2 →
 came_usage (Ok verdict) status = verdict_usage verdict status
 came_usage (Err error) status = program_usage error status
 
-pub reports_usage : (came : Result Verdict ProgramError) (result : ℕ) (told printed : Option (List ℕ)) (quiet loud : ℕ) → Reports came result told printed quiet loud → result ≡ 2 → ⊥
-reports_usage came result told printed quiet loud (inl (inl own)) two = came_usage came (sym own.0 ∙ two)
-reports_usage came result told printed quiet loud (inl (inr fault)) two = omega (arith, fault.0)
-reports_usage came result told printed quiet loud (inr (inl memory)) two = omega (arith, memory.0)
-reports_usage came result told printed quiet loud (inr (inr fault)) two = omega (arith, fault.0)
+pub reports_usage : (came : Result Verdict ProgramError) (result : ℕ) (err : ErrorStream) → Reports came result err → result ≡ 2 → ⊥
+reports_usage came result err (inl (inl own)) two = came_usage came (sym own.0 ∙ two)
+reports_usage came result err (inl (inr fault)) two = omega (arith, fault.0)
+reports_usage came result err (inr (inl memory)) two = omega (arith, memory.0)
+reports_usage came result err (inr (inr fault)) two = omega (arith, fault.0)

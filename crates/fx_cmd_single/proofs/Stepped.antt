@@ -1,22 +1,22 @@
 -- What the runner's answers come to, with the input and the output.
-use Rattle.std.proofs.Common.{◌≡◌, ℕ, ◌≤◌, ◌<◌, inl, inr, List, [], ◌∷◌, ◌++◌, length, take, Option, Some, None, false, arith, append-nil, refl, ap, sym, ◌∙◌, subst}
+use Rattle.std.proofs.Common.{◌≡◌, ℕ, ◌≤◌, ◌<◌, ◌⊎◌, inl, inr, List, [], ◌∷◌, ◌++◌, length, take, Option, Some, None, false, arith, append-nil, refl, ap, sym, ◌∙◌, subst}
 use Rattle.std.specs.Prelude.{IfSome, IfNone, option_map}
 use Rattle.std.proofs.lemmas.Option.{MatchOption-at_none}
 use Rattle.fx_base.specs.Faults.{Rose}
 use Rattle.fx_base.specs.Sink.{Gains}
 use Rattle.fx_base.specs.Told.{Told}
 use Rattle.fx_c_mean_model.specs.declared.end.End.{End}
-use Rattle.fx_c_mean_model.specs.declared.end.End.TheVariants as end
 use Rattle.fx_c_mean_model.specs.Steps.{operation}
 use Rattle.fx_c_mean.specs.declared.runner.Walk.{Walk}
 use Rattle.fx_c_mean.specs.declared.runner.Walk.TheVariants as walk
-use Rattle.fx_c_mean.specs.Walks.{Run, walk_of, GoesOn, Finishes, MakesStep, Walked}
+use Rattle.fx_c_mean.specs.Walks.{Run, GoesOn, Finishes, MakesStep, Walked}
 use Rattle.fx_c_mean_law.proofs.Loads.{asking, goes_made}
 use Rattle.fx_c_mean_law.proofs.Stepping.{one_of}
 use Rattle.fx_cmd_single.specs.declared.outcome.Outcome.{Outcome}
 use Rattle.fx_cmd_single.specs.declared.outcome.Outcome.TheVariants.{Ended, Spent, Device, ReadFault, WriteFault, OutOfMemory}
-use Rattle.fx_cmd_single.specs.Streams.{outputs, inputs, Reads, Gained, Same}
-use Rattle.fx_cmd_single.specs.Stepping.{end_at, Taken, NotTaken, NotPut, WentOn, EndsBy}
+use Rattle.fx_cmd_base.specs.Streams.{Gained}
+use Rattle.fx_cmd_single.specs.Streams.{outputs, inputs, Reads, Same}
+use Rattle.fx_cmd_single.specs.Stepping.{Taken, NotTaken, NotPut, WentOn, EndsBy}
 use Rattle.fx_cmd_single.proofs.Telling.{told_same, told_map, went_puts, output_puts, nothing_put, nothing_read}
 
 abbrev Tale : Type 0
@@ -25,34 +25,8 @@ Tale = Option (List ℕ)
 same_told : (o : Tale) → Told Same o o
 same_told o = told_same Same (λ x. refl) o
 
-one_made : (old new : Run) (answer : ℕ) (said : Walk) (went : GoesOn old answer said new) → length went.made ≤ 1
+pub one_made : (old new : Run) (answer : ℕ) (said : Walk) (went : GoesOn old answer said new) → length went.made ≤ 1
 one_made old new answer said went = one_of old.program old.rights answer old.state new.state went.made went.step
-
--- ---- ends
-
-end_is : (e f : End) → end_at (walk_of e) ≡ Some f → e ≡ f
-end_is (end.Exit v) f h = cc
-end_is (end.Denied compartment object offset write) f h = cc
-end_is (end.StackFull thread stack) f h = cc
-end_is end.Divide f h = cc
-end_is end.BadThread f h = cc
-end_is end.ThreadsFull f h = cc
-end_is end.Undefined f h = cc
-
--- an answer that is an end is that of a step that ended the run
-finishes : (old new : Run) (said : Walk) (f : End) → end_at said ≡ Some f → MakesStep old said new → Finishes old said new
-finishes old new (walk.Exit v) f e h = h
-finishes old new (walk.Denied compartment object offset write) f e h = h
-finishes old new (walk.StackFull thread stack) f e h = h
-finishes old new walk.Divide f e h = h
-finishes old new walk.BadThread f e h = h
-finishes old new walk.ThreadsFull f e h = h
-finishes old new walk.Undefined f e h = h
-finishes old new walk.Went f e h = cc
-finishes old new walk.Input f e h = cc
-finishes old new (walk.Output b) f e h = cc
-finishes old new (walk.DeviceFault d) f e h = cc
-finishes old new walk.OutOfMemory f e h = cc
 
 module _ (old new : Run) (going : old.finish ≡ None) where
   pub by_went : (taken left : Tale) → Walked old walk.Went new → WentOn old new taken taken left left
@@ -78,22 +52,32 @@ module _ (old new : Run) (going : old.finish ≡ None) where
   by_unput b input read out failed taken gained left ReadFault h why = absurd why
   by_unput b input read out failed taken gained left OutOfMemory h why = absurd why
 
-  pub by_end : (said : Walk) (e : End) (taken left : Tale) (input read out failed : ℕ) (result : Option Outcome) → end_at said ≡ Some e → Walked old said new → result ≡ option_map Ended (end_at said) → IfSome result (EndsBy old new taken taken left left input read out failed)
-  by_end said e taken left input read out failed result is h that =
-      let f = finishes old new said e is (MatchOption-at_none _ _ going h) in
-      subst (λ (o : Option Outcome). IfSome o (EndsBy old new taken taken left left input read out failed)) (sym (that ∙ ap (option_map Ended) is))
-      (said, f, end_is f.with_end e (ap end_at (sym f.says) ∙ is), same_told taken, same_told left)
+  -- ---- ends
 
-  -- the same of what an answer comes to that may be an end
-  pub by_ended : (said : Walk) (taken left : Tale) (input read out failed : ℕ) (result : Option Outcome) → Walked old said new → result ≡ option_map Ended (end_at said) → IfSome result (EndsBy old new taken taken left left input read out failed)
-  by_ended said taken left input read out failed result h that = by (end_at said) refl
+  -- an answer ended the run, or the run goes on
+  by_step : (said : Walk) → MakesStep old said new → Finishes old said new ⊎ (new.finish ≡ None)
+  by_step (walk.Exit v) h = inl h
+  by_step (walk.Denied compartment object offset write) h = inl h
+  by_step (walk.StackFull thread stack) h = inl h
+  by_step walk.Divide h = inl h
+  by_step walk.BadThread h = inl h
+  by_step walk.ThreadsFull h = inl h
+  by_step walk.Undefined h = inl h
+  by_step walk.Went h = inr (ap (λ (q : Run). q.finish) h.1.same ∙ going)
+  by_step walk.Input h = inr (ap (λ (q : Run). q.finish) h.1 ∙ going)
+  by_step (walk.Output b) h = inr (ap (λ (q : Run). q.finish) h.1.same ∙ going)
+  by_step (walk.DeviceFault d) h = inr (ap (λ (q : Run). q.finish) h.same ∙ going)
+  by_step walk.OutOfMemory h = inr (ap (λ (q : Run). q.finish) h ∙ going)
+
+  pub by_ended : (said : Walk) (taken left : Tale) (input read out failed : ℕ) (result : Option Outcome) → Walked old said new → result ≡ option_map Ended new.finish → IfSome result (EndsBy old new taken taken left left input read out failed)
+  by_ended said taken left input read out failed result h that = by (by_step said (MatchOption-at_none _ _ going h))
     where
-      by : (o : Option End) → end_at said ≡ o → IfSome result (EndsBy old new taken taken left left input read out failed)
-      by None is = subst (λ (o : Option Outcome). IfSome o (EndsBy old new taken taken left left input read out failed)) (sym (that ∙ ap (option_map Ended) is)) tt
-      by (Some e) is = by_end said e taken left input read out failed result is h that
+      at : (o : Option End) → new.finish ≡ o → IfSome (option_map Ended o) (EndsBy old new taken taken left left input read out failed) → IfSome result (EndsBy old new taken taken left left input read out failed)
+      at o is done = subst (λ (x : Option Outcome). IfSome x (EndsBy old new taken taken left left input read out failed)) (sym (that ∙ ap (option_map Ended) is)) done
 
-  pub by_no_end : (said : Walk) (e : End) (result : Option Outcome) (P : Type 0) → end_at said ≡ Some e → result ≡ option_map Ended (end_at said) → IfNone result P
-  by_no_end said e result P is that = subst (λ (o : Option Outcome). IfNone o P) (sym (that ∙ ap (option_map Ended) is)) tt
+      by : Finishes old said new ⊎ (new.finish ≡ None) → IfSome result (EndsBy old new taken taken left left input read out failed)
+      by (inl f) = at (Some f.with_end) (ap (λ (q : Run). q.finish) f.same) (said, f, refl, same_told taken, same_told left)
+      by (inr none) = at None none tt
 
   pub by_fault : (i : ℕ) (taken left : Tale) (input read out failed : ℕ) → Walked old (walk.DeviceFault i) new → EndsBy old new taken taken left left input read out failed (Device i)
   by_fault i taken left input read out failed h = (MatchOption-at_none _ _ going h, same_told taken, same_told left)

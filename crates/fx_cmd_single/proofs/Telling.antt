@@ -6,7 +6,8 @@ use Rattle.fx_base.specs.Told.{Told}
 use Rattle.fx_c_mean.specs.declared.runner.Walk.{Walk}
 use Rattle.fx_c_mean.specs.declared.runner.Walk.TheVariants as walk
 use Rattle.fx_c_mean.specs.Walks.{says, takes_input}
-use Rattle.fx_cmd_single.specs.Streams.{output_of, outputs, input_of, inputs, Reads, Gained, LostOne}
+use Rattle.fx_cmd_base.specs.Streams.{Gained}
+use Rattle.fx_cmd_single.specs.Streams.{output_of, outputs, input_of, inputs, Reads, LostOne}
 
 pub told_same : {A : Type 0} (R : A → A → Type 0) → ((x : A) → R x x) → (o : Option A) → Told R o o
 told_same R same None = tt

@@ -1,7 +1,6 @@
 -- What the command `single` comes to.
-use Rattle.std.specs.Prelude.{◌≡◌, ℕ, List, Option, Result, Ok, Err}
+use Rattle.std.specs.Prelude.{ℕ, List, Option, Result, Ok, Err}
 use Rattle.fx_base.specs.Told.{Told}
-use Rattle.fx_base.specs.Files.{Held}
 use Rattle.fx_base.specs.declared.device_op.DeviceOp.{DeviceOp}
 use Rattle.fx_device.specs.Rules.{Meaning}
 use Rattle.fx_config.specs.declared.configuration.Config.{Config}
@@ -10,22 +9,14 @@ use Rattle.fx_c_mean_model.specs.Programs.{program_of}
 use Rattle.fx_grants.specs.GrantSets.{merged_of}
 use Rattle.fx_c_mean.specs.Rights.{rights_of}
 use Rattle.fx_cmd_load.specs.declared.program_error.ProgramError.{ProgramError}
-use Rattle.fx_cmd_load.specs.Programs.{IsProgramOf, ProgramCause}
+use Rattle.fx_cmd_load.specs.Reading.{LeavesCount}
+use Rattle.fx_cmd_load.specs.Programs.{IsProgramOf, ProgramCause, ProgramLeaves}
+use Rattle.fx_cmd_base.specs.Streams.{Streams, Untouched}
 use Rattle.fx_cmd_single.specs.declared.outcome.Outcome.{Outcome}
 use Rattle.fx_cmd_single.specs.Ran.{RunsTo, Output, Input}
 use Rattle.fx_cmd_single.specs.Verdicts.{IsCalled}
 use Rattle.fx_cmd_single.specs.Words.{SingleGiven, budget_of}
 use Rattle.fx_cmd_single.specs.declared.verdict.Verdict.{Verdict}
-
--- What a command reads and writes: what the files hold, what the input has left and what the output took,
--- where they tell it, each with its count of faults.
-pub record Streams : Type 0 where
-  pub held : Option Held
-  pub file_faults : ℕ
-  pub left : Option (List ℕ)
-  pub input_faults : ℕ
-  pub taken : Option (List ℕ)
-  pub output_faults : ℕ
 
 -- A checked program was run with all its libraries in one compartment and these devices in their boxes, as long
 -- as the cost of its steps was below a budget. What it came to is the verdict.
@@ -43,13 +34,15 @@ pub record RunsProgram (given : SingleGiven) (boxes : List (Option Meaning)) (be
   pub config : Config
   pub program : TProgram
   pub loaded : IsProgramOf given.config before.held config program
+  -- No file failed, and none is read behind the loading.
+  pub counted : LeavesCount before.held before.file_faults after.file_faults
   pub run : RunsMerged (budget_of given) boxes before after config program verdict
 
 -- There is no checked program, for its cause, and neither input nor output was touched.
 pub record NotBegun (given : SingleGiven) (before after : Streams) (error : ProgramError) : Type 0 where
   pub why : ProgramCause given.config before.held before.file_faults after.file_faults error
-  pub input : after.left ≡ before.left
-  pub output : after.taken ≡ before.taken
+  pub counted : ProgramLeaves before.held before.file_faults after.file_faults error
+  pub untouched : Untouched before after
 
 abbrev pub Comes : SingleGiven → List (Option Meaning) → Streams → Streams → Result Verdict ProgramError → Type 0
 Comes given boxes before after (Ok verdict) = RunsProgram given boxes before after verdict

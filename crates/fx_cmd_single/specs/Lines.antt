@@ -2,8 +2,7 @@
 use Rattle.std.specs.Prelude.{ℕ, List, [], ◌∷◌, ◌++◌, Result, Ok, Err, codes}
 use Rattle.std.specs.Fmt.{decimal, signed_decimal}
 use Rattle.fx_cmd_load.specs.declared.program_error.ProgramError.{ProgramError}
-use Rattle.fx_cmd_load.specs.declared.program_error.ProgramError.TheVariants as program
-use Rattle.fx_cmd_base.specs.RefusalWords.{config_refusal, file_fault, parse_refusal, types_refusal}
+use Rattle.fx_cmd_base.specs.ProgramWords.{program_status, program_words}
 use Rattle.fx_cmd_single.specs.declared.verdict.Verdict.{Verdict}
 use Rattle.fx_cmd_single.specs.declared.verdict.Verdict.TheVariants.{Exited, StackFull, Divide, BadThread, ThreadsFull, Undefined, Spent, DeviceFault, ReadFault, WriteFault, OutOfMemory}
 use Rattle.fx_cmd_single.specs.Verdicts.{status_of}
@@ -21,20 +20,6 @@ verdict_words (DeviceFault device) = codes "device fault: " ++ decimal device
 verdict_words ReadFault = codes "read fault"
 verdict_words WriteFault = codes "write fault"
 verdict_words OutOfMemory = codes "out of memory"
-
-abbrev pub program_status : ProgramError → ℕ
-program_status (program.File name error) = 4
-program_status (program.Config error) = 3
-program_status (program.Parse file error) = 3
-program_status (program.Types kind declaration) = 3
-program_status program.OutOfMemory = 6
-
-abbrev pub program_words : ProgramError → List ℕ
-program_words (program.File name error) = file_fault name error
-program_words (program.Config error) = config_refusal error
-program_words (program.Parse file error) = parse_refusal file error
-program_words (program.Types kind declaration) = types_refusal kind declaration
-program_words program.OutOfMemory = codes "out of memory"
 
 abbrev pub came_status : Result Verdict ProgramError → ℕ
 came_status (Ok verdict) = status_of verdict

@@ -1,26 +1,14 @@
 -- What one step of a run comes to, with the input and the output.
-use Rattle.std.specs.Prelude.{ℕ, ◌≡◌, ◌⊎◌, List, [], ◌∷◌, Option, Some, None}
+use Rattle.std.specs.Prelude.{ℕ, ◌≡◌, ◌⊎◌, List, [], ◌∷◌, Option}
 use Rattle.fx_base.specs.Faults.{Rose}
 use Rattle.fx_base.specs.Told.{Told}
-use Rattle.fx_c_mean_model.specs.declared.end.End.{End}
-use Rattle.fx_c_mean_model.specs.declared.end.End.TheVariants as end
 use Rattle.fx_c_mean.specs.declared.runner.Walk.{Walk}
 use Rattle.fx_c_mean.specs.declared.runner.Walk.TheVariants as walk
 use Rattle.fx_c_mean.specs.Walks.{Run, GoesOn, Finishes, Faults, AsksInput}
-use Rattle.fx_cmd_single.specs.Streams.{outputs, inputs, Reads, Gained, Same, LostOne}
+use Rattle.fx_cmd_base.specs.Streams.{Gained}
+use Rattle.fx_cmd_single.specs.Streams.{outputs, inputs, Reads, Same, LostOne}
 use Rattle.fx_cmd_single.specs.declared.outcome.Outcome.{Outcome}
 use Rattle.fx_cmd_single.specs.declared.outcome.Outcome.TheVariants.{Ended, Spent, Device, ReadFault, WriteFault, OutOfMemory}
-
--- the end that an answer of the runner is, if it is one
-abbrev pub end_at : Walk → Option End
-end_at (walk.Exit v) = Some (end.Exit v)
-end_at (walk.Denied compartment object offset write) = Some (end.Denied compartment object offset write)
-end_at (walk.StackFull thread stack) = Some (end.StackFull thread stack)
-end_at walk.Divide = Some end.Divide
-end_at walk.BadThread = Some end.BadThread
-end_at walk.ThreadsFull = Some end.ThreadsFull
-end_at walk.Undefined = Some end.Undefined
-end_at _ = None
 
 -- The step went on. `taken` and `gained` are what the output took before and after, `left` and `lost` what the
 -- input has.

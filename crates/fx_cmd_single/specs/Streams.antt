@@ -39,11 +39,7 @@ abbrev pub Answers : Option ℕ → List ℕ → List ℕ → Type 0
 Answers None left after = after ≡ left
 Answers (Some answer) left after = Reads (answer ∷ []) left after
 
--- a sink gained these bytes
-abbrev pub Gained : List ℕ → List ℕ → List ℕ → Type 0
-Gained bytes start now = now ≡ start ++ bytes
-
--- it gained these without the last one
+-- a sink gained these bytes without the last one
 abbrev pub GainedButLast : List ℕ → List ℕ → List ℕ → Type 0
 GainedButLast bytes start now = (front : List ℕ) × (last : ℕ) × (bytes ≡ front ++ last ∷ []) × (now ≡ start ++ front)
 

@@ -6,6 +6,7 @@ ghost use Rattle.fx_base.specs.Files.{Held, SameFiles};
 ghost use Rattle.fx_device.specs.Bus.{plugged};
 ghost use Rattle.fx_grants.specs.GrantSets.{merged_of};
 ghost use Rattle.fx_c_mean.specs.Rights.{rights_of as rights_from};
+ghost use Rattle.fx_cmd_base.specs.Streams.{Streams};
 ghost use Rattle.fx_cmd_single.specs.Words.{budget_of as budget_for, single_given};
 ghost use Rattle.fx_cmd_single.specs.Comes.{RunsMerged, Comes};
 
@@ -48,10 +49,27 @@ fn run_merged<I: Source, O: Sink>(
     devices: Vec<Box<dyn Device>>,
 ) -> Verdict
     requires { length devices.items ≤ 15 }
-    ensures { (held kept : Option Held) (faults now : ℕ) → RunsMerged budget (map (option_map (λ d. (⟦<dyn Device as Device>⟧ d.vtable).meaning d.value)) (plugged 15 devices.items))
-        (record { held = held; file_faults = faults; left = I.left input.old; input_faults = I.faults input.old; taken = O.taken out.old; output_faults = O.faults out.old })
-        (record { held = kept; file_faults = now; left = I.left input.new; input_faults = I.faults input.new; taken = O.taken out.new; output_faults = O.faults out.new })
-        x.now.config x.now.program result }
+    ensures { let boxes =
+        map (option_map (λ d. (⟦<dyn Device as Device>⟧ d.vtable).meaning d.value))
+        (plugged 15 devices.items) in
+        (held kept : Option Held) (faults now : ℕ) →
+        let before : Streams = record {
+          held = held;
+          file_faults = faults;
+          left = I.left input.old;
+          input_faults = I.faults input.old;
+          taken = O.taken out.old;
+          output_faults = O.faults out.old;
+        } in
+        let after : Streams = record {
+          held = kept;
+          file_faults = now;
+          left = I.left input.new;
+          input_faults = I.faults input.new;
+          taken = O.taken out.new;
+          output_faults = O.faults out.new;
+        } in
+        RunsMerged budget boxes before after x.now.config x.now.program result }
 {
     let rights = match merged_rights(alloc, x) {
         Ok(rights) => rights,
@@ -73,10 +91,26 @@ pub fn perform<F: Files, I: Source, O: Sink>(
 ) -> Result<Verdict, ProgramError>
     requires { length devices.items ≤ 15 }
     ensures keeps { Told SameFiles (F.held files.old) (F.held files.new) }
-    ensures comes { Comes (single_given words.now) (map (option_map (λ d. (⟦<dyn Device as Device>⟧ d.vtable).meaning d.value)) (plugged 15 devices.items))
-        (record { held = F.held files.old; file_faults = F.faults files.old; left = I.left input.old; input_faults = I.faults input.old; taken = O.taken out.old; output_faults = O.faults out.old })
-        (record { held = F.held files.new; file_faults = F.faults files.new; left = I.left input.new; input_faults = I.faults input.new; taken = O.taken out.new; output_faults = O.faults out.new })
-        result }
+    ensures comes { let boxes =
+        map (option_map (λ d. (⟦<dyn Device as Device>⟧ d.vtable).meaning d.value))
+        (plugged 15 devices.items) in
+        let before : Streams = record {
+          held = F.held files.old;
+          file_faults = F.faults files.old;
+          left = I.left input.old;
+          input_faults = I.faults input.old;
+          taken = O.taken out.old;
+          output_faults = O.faults out.old;
+        } in
+        let after : Streams = record {
+          held = F.held files.new;
+          file_faults = F.faults files.new;
+          left = I.left input.new;
+          input_faults = I.faults input.new;
+          taken = O.taken out.new;
+          output_faults = O.faults out.new;
+        } in
+        Comes (single_given words.now) boxes before after result }
 {
     let x = load_program(alloc, files, words.config)?;
     Ok(run_merged(alloc, &x, budget_of(words), input, out, devices))

@@ -1,10 +1,10 @@
 //! The line that the command ends with, and its status.
 
 ghost use Rattle.std.specs.Prelude.{◌≡◌, ◌++◌, ◌∷◌, [], IfOk, string_bytes};
-ghost use Rattle.fx_cmd_single.specs.Lines.{verdict_words, program_status, program_words, came_status, came_words, came_line};
+ghost use Rattle.fx_cmd_single.specs.Lines.{verdict_words, came_status, came_words, came_line};
 
 use crate::verdict::Verdict;
-use fx_cmd_base::{config_refusal, file_fault, parse_refusal, types_refusal};
+use fx_cmd_base::{program_status, program_words};
 use fx_cmd_load::ProgramError;
 use std::alloc::{AllocError, Global};
 
@@ -26,30 +26,6 @@ fn verdict_words(alloc: Global, verdict: Verdict) -> Result<String, AllocError>
         Verdict::ReadFault => String::from_str(alloc, "read fault"),
         Verdict::WriteFault => String::from_str(alloc, "write fault"),
         Verdict::OutOfMemory => String::from_str(alloc, "out of memory"),
-    }
-}
-
-/// The status where there is no checked program.
-fn program_status(error: &ProgramError) -> u8
-    ensures { result ≡ program_status error.now }
-{
-    match error {
-        ProgramError::File { .. } => 4,
-        ProgramError::Config(_) | ProgramError::Parse { .. } | ProgramError::Types { .. } => 3,
-        ProgramError::OutOfMemory => 6,
-    }
-}
-
-/// The words where there is no checked program.
-fn program_words(alloc: Global, error: &ProgramError) -> Result<String, AllocError>
-    ensures { IfOk result (λ s. string_bytes s ≡ program_words error.now) }
-{
-    match error {
-        ProgramError::File { name, error } => file_fault(alloc, name.as_str(), *error),
-        ProgramError::Config(error) => config_refusal(alloc, *error),
-        ProgramError::Parse { file, error } => parse_refusal(alloc, *file, *error),
-        ProgramError::Types { kind, declaration } => types_refusal(alloc, *kind, *declaration),
-        ProgramError::OutOfMemory => String::from_str(alloc, "out of memory"),
     }
 }
 

@@ -24,10 +24,33 @@ pub fn run_on<I: Source, O: Sink>(
     input: &mut I,
     out: &mut O,
 ) -> Outcome
-    requires { ((run_of runner.old.source runner.old.core (bus_state (λ d. (⟦<dyn Device as Device>⟧ d.vtable).meaning d.value) runner.old.bus.boxes runner.old.bus.transcript.items) runner.old.cost runner.old.end) ≡ first_run (run_of runner.old.source runner.old.core (bus_state (λ d. (⟦<dyn Device as Device>⟧ d.vtable).meaning d.value) runner.old.bus.boxes runner.old.bus.transcript.items) runner.old.cost runner.old.end).program (run_of runner.old.source runner.old.core (bus_state (λ d. (⟦<dyn Device as Device>⟧ d.vtable).meaning d.value) runner.old.bus.boxes runner.old.bus.transcript.items) runner.old.cost runner.old.end).rights (run_of runner.old.source runner.old.core (bus_state (λ d. (⟦<dyn Device as Device>⟧ d.vtable).meaning d.value) runner.old.bus.boxes runner.old.bus.transcript.items) runner.old.cost runner.old.end).bus) × ((run_of runner.old.source runner.old.core (bus_state (λ d. (⟦<dyn Device as Device>⟧ d.vtable).meaning d.value) runner.old.bus.boxes runner.old.bus.transcript.items) runner.old.cost runner.old.end).bus.transcript ≡ []) }
-    ensures ran { RunsTo (run_of runner.old.source runner.old.core (bus_state (λ d. (⟦<dyn Device as Device>⟧ d.vtable).meaning d.value) runner.old.bus.boxes runner.old.bus.transcript.items) runner.old.cost runner.old.end).program (run_of runner.old.source runner.old.core (bus_state (λ d. (⟦<dyn Device as Device>⟧ d.vtable).meaning d.value) runner.old.bus.boxes runner.old.bus.transcript.items) runner.old.cost runner.old.end).rights budget (run_of runner.old.source runner.old.core (bus_state (λ d. (⟦<dyn Device as Device>⟧ d.vtable).meaning d.value) runner.old.bus.boxes runner.old.bus.transcript.items) runner.old.cost runner.old.end).bus.boxes (I.faults input.old) (I.faults input.new) (O.faults out.old) (O.faults out.new) result (run_of runner.new.source runner.new.core (bus_state (λ d. (⟦<dyn Device as Device>⟧ d.vtable).meaning d.value) runner.new.bus.boxes runner.new.bus.transcript.items) runner.new.cost runner.new.end).cost (run_of runner.new.source runner.new.core (bus_state (λ d. (⟦<dyn Device as Device>⟧ d.vtable).meaning d.value) runner.new.bus.boxes runner.new.bus.transcript.items) runner.new.cost runner.new.end).bus.transcript }
-    ensures output { Told (Output result (run_of runner.new.source runner.new.core (bus_state (λ d. (⟦<dyn Device as Device>⟧ d.vtable).meaning d.value) runner.new.bus.boxes runner.new.bus.transcript.items) runner.new.cost runner.new.end).bus.transcript) (O.taken out.old) (O.taken out.new) }
-    ensures input { Told (Input result (run_of runner.new.source runner.new.core (bus_state (λ d. (⟦<dyn Device as Device>⟧ d.vtable).meaning d.value) runner.new.bus.boxes runner.new.bus.transcript.items) runner.new.cost runner.new.end).bus.transcript) (I.left input.old) (I.left input.new) }
+    requires { let before = run_of runner.old.source runner.old.core
+        (bus_state (λ d. (⟦<dyn Device as Device>⟧ d.vtable).meaning d.value)
+        runner.old.bus.boxes runner.old.bus.transcript.items) runner.old.cost runner.old.end
+        in
+        (before ≡ first_run before.program before.rights before.bus)
+        × (before.bus.transcript ≡ []) }
+    ensures ran { let before = run_of runner.old.source runner.old.core
+        (bus_state (λ d. (⟦<dyn Device as Device>⟧ d.vtable).meaning d.value)
+        runner.old.bus.boxes runner.old.bus.transcript.items) runner.old.cost runner.old.end
+        in
+        let after = run_of runner.new.source runner.new.core
+        (bus_state (λ d. (⟦<dyn Device as Device>⟧ d.vtable).meaning d.value)
+        runner.new.bus.boxes runner.new.bus.transcript.items) runner.new.cost runner.new.end
+        in
+        RunsTo before.program before.rights budget before.bus.boxes (I.faults input.old)
+        (I.faults input.new) (O.faults out.old) (O.faults out.new) result after.cost
+        after.bus.transcript }
+    ensures output { let after = run_of runner.new.source runner.new.core
+        (bus_state (λ d. (⟦<dyn Device as Device>⟧ d.vtable).meaning d.value)
+        runner.new.bus.boxes runner.new.bus.transcript.items) runner.new.cost runner.new.end
+        in
+        Told (Output result after.bus.transcript) (O.taken out.old) (O.taken out.new) }
+    ensures input { let after = run_of runner.new.source runner.new.core
+        (bus_state (λ d. (⟦<dyn Device as Device>⟧ d.vtable).meaning d.value)
+        runner.new.bus.boxes runner.new.bus.transcript.items) runner.new.cost runner.new.end
+        in
+        Told (Input result after.bus.transcript) (I.left input.old) (I.left input.new) }
     ensures read { I.faults input.old ≤ I.faults input.new }
     ensures put { O.faults out.old ≤ O.faults out.new }
 {
@@ -67,9 +90,16 @@ pub fn single_run<I: Source, O: Sink>(
     devices: Vec<Box<dyn Device>>,
 ) -> Ran
     requires { length devices.items ≤ 15 }
-    ensures ran { RunsTo (program_of program.now) rights budget (map (option_map (λ d. (⟦<dyn Device as Device>⟧ d.vtable).meaning d.value)) (plugged 15 devices.items)) (I.faults input.old) (I.faults input.new) (O.faults out.old) (O.faults out.new) result.outcome result.cost result.transcript }
-    ensures output { Told (Output result.outcome result.transcript) (O.taken out.old) (O.taken out.new) }
-    ensures input { Told (Input result.outcome result.transcript) (I.left input.old) (I.left input.new) }
+    ensures ran { let boxes =
+        map (option_map (λ d. (⟦<dyn Device as Device>⟧ d.vtable).meaning d.value))
+        (plugged 15 devices.items) in
+        RunsTo (program_of program.now) rights budget boxes
+        (I.faults input.old) (I.faults input.new) (O.faults out.old) (O.faults out.new)
+        result.outcome result.cost result.transcript }
+    ensures output { Told (Output result.outcome result.transcript) (O.taken out.old)
+        (O.taken out.new) }
+    ensures input { Told (Input result.outcome result.transcript) (I.left input.old)
+        (I.left input.new) }
     ensures read { I.faults input.old ≤ I.faults input.new }
     ensures put { O.faults out.old ≤ O.faults out.new }
 {

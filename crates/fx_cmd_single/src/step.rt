@@ -6,13 +6,13 @@ ghost use Rattle.fx_base.specs.Told.{Told};
 ghost use Rattle.fx_device.specs.Bus.{bus_state};
 ghost use Rattle.fx_c_mean.specs.Walks.{run_of, Waits};
 ghost use Rattle.fx_cmd_single.specs.declared.outcome.Outcome.TheVariants.{Ended};
-ghost use Rattle.fx_cmd_single.specs.Streams.{Answers, Gained, Same};
-ghost use Rattle.fx_cmd_single.specs.Stepping.{end_at, Taken, NotTaken, NotPut, WentOn, EndsBy};
+ghost use Rattle.fx_cmd_base.specs.Streams.{Gained};
+ghost use Rattle.fx_cmd_single.specs.Streams.{Answers, Same};
+ghost use Rattle.fx_cmd_single.specs.Stepping.{Taken, NotTaken, NotPut, WentOn, EndsBy};
 
 use crate::outcome::Outcome;
 use fx_base::{Sink, Source, put_all};
 use fx_c_mean::runner::{Runner, Walk};
-use fx_c_mean_model::end::End;
 use fx_device::Device;
 
 /// The answer to a load of the console: the next byte of input, and all ones at its end. None where the
@@ -29,40 +29,40 @@ fn next_input<I: Source>(input: &mut I) -> Option<u64>
     }
 }
 
-/// How a run ended whose last step came to an end. None where the answer is no end.
-fn ended(walk: Walk) -> Option<Outcome>
-    ensures { result ≡ option_map Ended (end_at walk) }
+/// How a run ended, if it came to an end.
+fn ended(runner: &Runner<'_>) -> Option<Outcome>
+    ensures { result ≡ option_map Ended runner.now.end }
 {
-    let end = match walk {
-        Walk::Exit(value) => End::Exit(value),
-        Walk::Denied {
-            compartment,
-            object,
-            offset,
-            write,
-        } => End::Denied {
-            compartment,
-            object,
-            offset,
-            write,
-        },
-        Walk::StackFull { thread, stack } => End::StackFull { thread, stack },
-        Walk::Divide => End::Divide,
-        Walk::BadThread => End::BadThread,
-        Walk::ThreadsFull => End::ThreadsFull,
-        Walk::Undefined => End::Undefined,
-        Walk::Went | Walk::Input | Walk::Output(_) | Walk::DeviceFault(_) | Walk::OutOfMemory =>
-            return None,
-    };
-    Some(Outcome::Ended(end))
+    runner.end().map(Outcome::Ended)
 }
 
 /// Makes the load of the console that waits, with the next byte of the input. None goes on.
 fn take_input<I: Source>(runner: &mut Runner<'_>, input: &mut I) -> Option<Outcome>
-    requires { Waits (run_of runner.old.source runner.old.core (bus_state (λ d. (⟦<dyn Device as Device>⟧ d.vtable).meaning d.value) runner.old.bus.boxes runner.old.bus.transcript.items) runner.old.cost runner.old.end) }
+    requires { let before = run_of runner.old.source runner.old.core
+        (bus_state (λ d. (⟦<dyn Device as Device>⟧ d.vtable).meaning d.value)
+        runner.old.bus.boxes runner.old.bus.transcript.items) runner.old.cost runner.old.end
+        in
+        Waits before }
     ensures read { I.faults input.old ≤ I.faults input.new }
-    ensures goes { IfNone result (Taken (run_of runner.old.source runner.old.core (bus_state (λ d. (⟦<dyn Device as Device>⟧ d.vtable).meaning d.value) runner.old.bus.boxes runner.old.bus.transcript.items) runner.old.cost runner.old.end) (run_of runner.new.source runner.new.core (bus_state (λ d. (⟦<dyn Device as Device>⟧ d.vtable).meaning d.value) runner.new.bus.boxes runner.new.bus.transcript.items) runner.new.cost runner.new.end) (I.left input.old) (I.left input.new)) }
-    ensures ends { IfSome result (NotTaken (run_of runner.old.source runner.old.core (bus_state (λ d. (⟦<dyn Device as Device>⟧ d.vtable).meaning d.value) runner.old.bus.boxes runner.old.bus.transcript.items) runner.old.cost runner.old.end) (run_of runner.new.source runner.new.core (bus_state (λ d. (⟦<dyn Device as Device>⟧ d.vtable).meaning d.value) runner.new.bus.boxes runner.new.bus.transcript.items) runner.new.cost runner.new.end) (I.left input.old) (I.left input.new) (I.faults input.old) (I.faults input.new)) }
+    ensures goes { let before = run_of runner.old.source runner.old.core
+        (bus_state (λ d. (⟦<dyn Device as Device>⟧ d.vtable).meaning d.value)
+        runner.old.bus.boxes runner.old.bus.transcript.items) runner.old.cost runner.old.end
+        in
+        let after = run_of runner.new.source runner.new.core
+        (bus_state (λ d. (⟦<dyn Device as Device>⟧ d.vtable).meaning d.value)
+        runner.new.bus.boxes runner.new.bus.transcript.items) runner.new.cost runner.new.end
+        in
+        IfNone result (Taken before after (I.left input.old) (I.left input.new)) }
+    ensures ends { let before = run_of runner.old.source runner.old.core
+        (bus_state (λ d. (⟦<dyn Device as Device>⟧ d.vtable).meaning d.value)
+        runner.old.bus.boxes runner.old.bus.transcript.items) runner.old.cost runner.old.end
+        in
+        let after = run_of runner.new.source runner.new.core
+        (bus_state (λ d. (⟦<dyn Device as Device>⟧ d.vtable).meaning d.value)
+        runner.new.bus.boxes runner.new.bus.transcript.items) runner.new.cost runner.new.end
+        in
+        IfSome result (NotTaken before after (I.left input.old) (I.left input.new)
+        (I.faults input.old) (I.faults input.new)) }
 {
     let answer = match next_input(input) {
         Some(answer) => answer,
@@ -88,7 +88,8 @@ fn take_input<I: Source>(runner: &mut Runner<'_>, input: &mut I) -> Option<Outco
 fn put_output<O: Sink>(out: &mut O, byte: u8) -> Option<Outcome>
     ensures put { O.faults out.old ≤ O.faults out.new }
     ensures goes { IfNone result (Told (Gained (byte ∷ [])) (O.taken out.old) (O.taken out.new)) }
-    ensures ends { IfSome result (NotPut (O.taken out.old) (O.taken out.new) (O.faults out.old) (O.faults out.new)) }
+    ensures ends { IfSome result (NotPut (O.taken out.old) (O.taken out.new) (O.faults out.old)
+        (O.faults out.new)) }
 {
     match put_all(out, &[byte]) {
         Ok(()) => None,
@@ -102,14 +103,36 @@ pub fn step_once<I: Source, O: Sink>(
     input: &mut I,
     out: &mut O,
 ) -> Option<Outcome>
-    requires { (run_of runner.old.source runner.old.core (bus_state (λ d. (⟦<dyn Device as Device>⟧ d.vtable).meaning d.value) runner.old.bus.boxes runner.old.bus.transcript.items) runner.old.cost runner.old.end).finish ≡ None }
+    requires { let before = run_of runner.old.source runner.old.core
+        (bus_state (λ d. (⟦<dyn Device as Device>⟧ d.vtable).meaning d.value)
+        runner.old.bus.boxes runner.old.bus.transcript.items) runner.old.cost runner.old.end
+        in
+        before.finish ≡ None }
     ensures read { I.faults input.old ≤ I.faults input.new }
     ensures put { O.faults out.old ≤ O.faults out.new }
-    ensures goes { IfNone result (WentOn (run_of runner.old.source runner.old.core (bus_state (λ d. (⟦<dyn Device as Device>⟧ d.vtable).meaning d.value) runner.old.bus.boxes runner.old.bus.transcript.items) runner.old.cost runner.old.end) (run_of runner.new.source runner.new.core (bus_state (λ d. (⟦<dyn Device as Device>⟧ d.vtable).meaning d.value) runner.new.bus.boxes runner.new.bus.transcript.items) runner.new.cost runner.new.end) (O.taken out.old) (O.taken out.new) (I.left input.old) (I.left input.new)) }
-    ensures ends { IfSome result (λ outcome. EndsBy (run_of runner.old.source runner.old.core (bus_state (λ d. (⟦<dyn Device as Device>⟧ d.vtable).meaning d.value) runner.old.bus.boxes runner.old.bus.transcript.items) runner.old.cost runner.old.end) (run_of runner.new.source runner.new.core (bus_state (λ d. (⟦<dyn Device as Device>⟧ d.vtable).meaning d.value) runner.new.bus.boxes runner.new.bus.transcript.items) runner.new.cost runner.new.end) (O.taken out.old) (O.taken out.new) (I.left input.old) (I.left input.new) (I.faults input.old) (I.faults input.new) (O.faults out.old) (O.faults out.new) outcome) }
+    ensures goes { let before = run_of runner.old.source runner.old.core
+        (bus_state (λ d. (⟦<dyn Device as Device>⟧ d.vtable).meaning d.value)
+        runner.old.bus.boxes runner.old.bus.transcript.items) runner.old.cost runner.old.end
+        in
+        let after = run_of runner.new.source runner.new.core
+        (bus_state (λ d. (⟦<dyn Device as Device>⟧ d.vtable).meaning d.value)
+        runner.new.bus.boxes runner.new.bus.transcript.items) runner.new.cost runner.new.end
+        in
+        IfNone result (WentOn before after (O.taken out.old) (O.taken out.new) (I.left input.old)
+        (I.left input.new)) }
+    ensures ends { let before = run_of runner.old.source runner.old.core
+        (bus_state (λ d. (⟦<dyn Device as Device>⟧ d.vtable).meaning d.value)
+        runner.old.bus.boxes runner.old.bus.transcript.items) runner.old.cost runner.old.end
+        in
+        let after = run_of runner.new.source runner.new.core
+        (bus_state (λ d. (⟦<dyn Device as Device>⟧ d.vtable).meaning d.value)
+        runner.new.bus.boxes runner.new.bus.transcript.items) runner.new.cost runner.new.end
+        in
+        IfSome result (λ outcome. EndsBy before after (O.taken out.old) (O.taken out.new)
+        (I.left input.old) (I.left input.new) (I.faults input.old) (I.faults input.new)
+        (O.faults out.old) (O.faults out.new) outcome) }
 {
-    let walk = runner.step();
-    match walk {
+    match runner.step() {
         Walk::Went => None,
         Walk::Output(byte) => put_output(out, byte),
         Walk::Input => take_input(runner, input),
@@ -121,6 +144,6 @@ pub fn step_once<I: Source, O: Sink>(
         | Walk::Divide
         | Walk::BadThread
         | Walk::ThreadsFull
-        | Walk::Undefined => ended(walk),
+        | Walk::Undefined => ended(runner),
     }
 }

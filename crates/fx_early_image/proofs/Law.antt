@@ -22,11 +22,13 @@ use Rattle.fx_machine_model.proofs.Pages.{fits}
 use Rattle.fx_machine_model.proofs.Regions.{use_stack}
 use Rattle.fx_machine_model.proofs.Standing.{stored_keeps}
 use Rattle.fx_machine_model.proofs.Placing.{boot_code}
-use Rattle.fx_faithful.specs.Ends.{End, Exit, IsUndefined, Corresponds}
+use Rattle.fx_c_mean_model.specs.declared.end.End.{End}
+use Rattle.fx_c_mean_model.specs.declared.end.End.TheVariants.{Exit}
+use Rattle.fx_faithful.specs.Ends.{IsUndefined, Corresponds}
 use Rattle.fx_faithful.specs.Faith.{Faithful}
 use Rattle.fx_early_image.specs.Code.{console, range_bytes, code_bytes}
 use Rattle.fx_early_image.specs.Layout.{laid_out, early_image, first_rsp}
-use Rattle.fx_early_image.specs.Source.{Object, State, Starting, Writing, step, extra, console_store}
+use Rattle.fx_early_image.specs.Source.{State, Starting, Writing, step, extra, console_store}
 use Rattle.fx_early_image.specs.Faithful.{names, EarlyFaithful, ImagesAreFaithful}
 use Rattle.fx_early_image.proofs.Lengths.{range_length, range_some, range_whole}
 use Rattle.fx_early_image.proofs.Calm.{AreBytes, pages}
@@ -77,11 +79,11 @@ module _ (answers : List ℕ) (constants : List ℕ) (few : length constants ≤
       (c ≡ 0) × HoldsCode image w.memory × (word_at w.memory W64 turns.main_rsp ≡ behind_call)
       × ((done : List ℕ) × (rcx : ℕ) × (constants ≡ done ++ cs) × (r ≡ turns.regs (code_start + (23 + 14 * length done)) console rcx turns.main_rsp))
 
-  abbrev Same : End Object → Stop → Type 0
+  abbrev Same : End → Stop → Type 0
   Same = Corresponds (names answers) image
 
-  abbrev Leads : ℕ → ℕ → ℕ → Next DeviceOp State (End Object) → Regs → World → Type 0
-  Leads p k c a r w = several.Leads DeviceOp State (End Object) Regs World Stop IsUndefined Same step extra (move image) 1 InLoop Uncalled At p k c a r w
+  abbrev Leads : ℕ → ℕ → ℕ → Next DeviceOp State End → Regs → World → Type 0
+  Leads p k c a r w = several.Leads DeviceOp State End Regs World Stop IsUndefined Same step extra (move image) 1 InLoop Uncalled At p k c a r w
 
   abbrev calm : World → Bool
   calm x = true
@@ -90,10 +92,10 @@ module _ (answers : List ℕ) (constants : List ℕ) (few : length constants ≤
   row k r w = ahead (λ r w. watched calm (move image 0 r w)) k r w
 
   leads : (k : ℕ) (s : State) (r : Regs) (w : World) (o : List DeviceOp) (q : Regs) (x : World) → row k r w ≡ Goes o (q, x) → At 0 s q x → Leads 0 k 0 (Goes o s) r w
-  leads k s r w o q x go at = several.row_to DeviceOp State (End Object) Regs World Stop IsUndefined Same step extra (move image) 1 InLoop Uncalled At calm _ k 0 s r w o q x (λ x h e lt ne. tt) go (inl at)
+  leads k s r w o q x go at = several.row_to DeviceOp State End Regs World Stop IsUndefined Same step extra (move image) 1 InLoop Uncalled At calm _ k 0 s r w o q x (λ x h e lt ne. tt) go (inl at)
 
-  ends : (k : ℕ) (r : Regs) (w : World) (o : List DeviceOp) (e : End Object) (t : Stop) → Same e t → row k r w ≡ Stops o (Some t) → Leads 0 k 0 (Stops o e) r w
-  ends k r w o e t same go = several.row_out DeviceOp State (End Object) Regs World Stop IsUndefined Same step extra (move image) 1 InLoop Uncalled At calm _ k 0 r w o e t (λ x h e lt ne. tt) same go
+  ends : (k : ℕ) (r : Regs) (w : World) (o : List DeviceOp) (e : End) (t : Stop) → Same e t → row k r w ≡ Stops o (Some t) → Leads 0 k 0 (Stops o e) r w
+  ends k r w o e t same go = several.row_out DeviceOp State End Regs World Stop IsUndefined Same step extra (move image) 1 InLoop Uncalled At calm _ k 0 r w o e t (λ x h e lt ne. tt) same go
 
   -- one turn, and then the others
   one : (k : ℕ) (r : Regs) (w : World) (o : List DeviceOp) (q : Regs) (x : World) → move image 0 r w ≡ Goes o (q, x) → row (suc k) r w ≡ then_next o (row k q x)
@@ -103,7 +105,7 @@ module _ (answers : List ℕ) (constants : List ℕ) (few : length constants ≤
   last r w t e = ap (λ (z : Move). join (watched calm z) (λ y. row 0 y.0 y.1)) e
 
   abbrev Starts : ℕ → State → Regs → World → Type 0
-  Starts c s r w = ((e : End Object) × (step s ≡ Stops [] e) × IsUndefined e) ⊎ ((k : ℕ) × (p : ℕ) × (suc k ≤ 256 * (extra s + 1)) × Leads p (suc k) c (step s) r w)
+  Starts c s r w = ((e : End) × (step s ≡ Stops [] e) × IsUndefined e) ⊎ ((k : ℕ) × (p : ℕ) × (suc k ≤ 256 * (extra s + 1)) × Leads p (suc k) c (step s) r w)
 
   free : access_check (page_entry image 0) (record { 0 = 0 }) Write turns.main_rsp 8 ≡ None
   free = use_stack image 0 0 turns.main_rsp 8 (record { 0 = 0 }) Write fitting refl (omega arith) (omega arith) (omega arith) (omega arith) (λ e. omega (arith, e)) (λ e. cc) refl
@@ -192,7 +194,7 @@ laid_keeps : (constants : List ℕ) → length constants ≤ 1000 → AreBytes c
 unfolding Faithful
 laid_keeps constants few small answers fit =
     let i = image answers constants few small in
-    several.several_keep DeviceOp State (End Object) Regs World Stop IsUndefined (Same answers constants few small) step extra (move i) 1
+    several.several_keep DeviceOp State End Regs World Stop IsUndefined (Same answers constants few small) step extra (move i) 1
     (InLoop answers constants few small) (Uncalled answers constants few small) (At answers constants few small)
     (record { idle = λ e r w h u. absurd h }) (record { starts = λ c s r w a alone. starts answers constants few small c s r w a }) 0 (Starting constants) (boot i answers)
     (omega arith, (λ e lt ne. tt), (λ e lt ne. absurd (omega arith)), inl (refl, refl, refl, boot_code i))

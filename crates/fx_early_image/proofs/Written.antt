@@ -10,10 +10,12 @@ use Rattle.fx_machine_model.specs.Running.{run_image}
 use Rattle.fx_machine_model.specs.Boot.{vcpus}
 use Rattle.fx_machine_model.specs.declared.stop.Stop.{Stop}
 use Rattle.fx_machine_model.specs.declared.stop.Stop.TheVariants as stops
-use Rattle.fx_faithful.specs.Ends.{End, Exit, IsUndefined, Corresponds}
+use Rattle.fx_c_mean_model.specs.declared.end.End.{End}
+use Rattle.fx_c_mean_model.specs.declared.end.End.TheVariants.{Exit}
+use Rattle.fx_faithful.specs.Ends.{IsUndefined, Corresponds}
 use Rattle.fx_faithful.specs.Faith.{Faithful}
 use Rattle.fx_early_image.specs.Layout.{early_image}
-use Rattle.fx_early_image.specs.Source.{Object, State, Starting, Writing, step, extra, console_store, early_expected}
+use Rattle.fx_early_image.specs.Source.{State, Starting, Writing, step, extra, console_store, early_expected}
 use Rattle.fx_early_image.specs.Faithful.{names, EarlyFaithful, RunsWriteConstants}
 use Rattle.fx_early_image.proofs.Law.{images_are_faithful}
 
@@ -23,8 +25,8 @@ left (Starting cs) = cs
 left (Writing cs) = cs
 
 -- what a program has done within a budget, from a state on
-abbrev Wrote : List ℕ → Outcome DeviceOp (End Object) → Type 0
-Wrote cs x = IsPrefix x.made (map console_store cs) × ((e : End Object) → x.finish ≡ Some e → (e ≡ Exit (pos 0)) × (x.made ≡ map console_store cs))
+abbrev Wrote : List ℕ → Outcome DeviceOp End → Type 0
+Wrote cs x = IsPrefix x.made (map console_store cs) × ((e : End) → x.finish ≡ Some e → (e ≡ Exit (pos 0)) × (x.made ≡ map console_store cs))
 
 wrote : (k wait : ℕ) (s : State) → Wrote (left s) (within step extra k wait s)
 wrote zero wait s = ((map console_store (left s), refl), λ e h. cc)
@@ -40,13 +42,13 @@ prefix_of_take i xs ys zs e p =
     (drop i xs ++ p.0, p.1 ∙ ap (λ l. l ++ p.0) (sym (take-append-drop i xs)) ∙ append_assoc (take i xs) (drop i xs) p.0 ∙ ap (λ l. l ++ (drop i xs ++ p.0)) (sym e))
 
 module _ (constants answers : List ℕ) (schedule : List ℕ) where
-  abbrev x : ℕ → Outcome DeviceOp (End Object)
+  abbrev x : ℕ → Outcome DeviceOp End
   x = early_expected constants answers
 
   abbrev y : Outcome DeviceOp Stop
   y = run_image (early_image constants) answers schedule
 
-  abbrev Same : End Object → Stop → Type 0
+  abbrev Same : End → Stop → Type 0
   Same = Corresponds (names answers) (early_image constants)
 
   lost : (k : ℕ) → Lost IsUndefined (x k).finish → ⊥
@@ -56,7 +58,7 @@ module _ (constants answers : List ℕ) (schedule : List ℕ) where
   front k (inl e) = prefix_of_take (length y.made) (x k).made (map console_store constants) y.made (sym (take-length y.made) ∙ e) (wrote k (extra (Starting constants)) (Starting constants)).0
   front k (inr l) = absurd (lost k l.0)
 
-  exits : (e : End Object) (t : Stop) → e ≡ Exit (pos 0) → Same e t → t ≡ stops.Exit (pos 0)
+  exits : (e : End) (t : Stop) → e ≡ Exit (pos 0) → Same e t → t ≡ stops.Exit (pos 0)
   exits e t is same = exit t (subst (λ e. Same e t) is same)
     where
       exit : (t : Stop) → Same (Exit (pos 0)) t → t ≡ stops.Exit (pos 0)

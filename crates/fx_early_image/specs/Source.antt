@@ -1,13 +1,10 @@
 use Rattle.std.specs.Prelude.{ℕ, pos, true, List, [], ◌∷◌}
 use Rattle.fx_outcomes.specs.Runs.{Next, Goes, Stops, Outcome, expected}
 use Rattle.fx_base.specs.declared.device_op.DeviceOp.{DeviceOp}
-use Rattle.fx_faithful.specs.Ends.{End, Exit}
+use Rattle.fx_c_mean_model.specs.declared.end.End.{End}
+use Rattle.fx_c_mean_model.specs.declared.end.End.TheVariants.{Exit}
 
 -- What a program does that writes constants to the console and returns from a `main` without a value.
-
--- The number of a global or a literal. Such a program has none.
-abbrev pub Object : Type 0
-Object = ℕ
 
 -- Before the start, with the constants to be written; and in `main`, with those left.
 pub data State : Type 0 where
@@ -18,7 +15,7 @@ pub data State : Type 0 where
 abbrev pub console_store : ℕ → DeviceOp
 console_store c = record { device = 0; reg = 0; write = true; value = c }
 
-abbrev pub step : State → Next DeviceOp State (End Object)
+abbrev pub step : State → Next DeviceOp State End
 step (Starting constants) = Goes [] (Writing constants)
 step (Writing []) = Stops [] (Exit (pos 0))
 step (Writing (c ∷ cs)) = Goes (console_store c ∷ []) (Writing cs)
@@ -33,5 +30,5 @@ extra (Writing []) = 0
 extra (Writing (c ∷ cs)) = 2
 
 -- The operations and the end within a cost. Such a program loads nothing, so no answer is looked at.
-abbrev pub early_expected : List ℕ → List ℕ → ℕ → Outcome DeviceOp (End Object)
+abbrev pub early_expected : List ℕ → List ℕ → ℕ → Outcome DeviceOp End
 early_expected constants answers k = expected step extra k (Starting constants)

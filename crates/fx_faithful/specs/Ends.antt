@@ -1,5 +1,7 @@
--- How a source's run ends, and which stop of the machine corresponds to it.
-use Rattle.std.specs.Prelude.{ℕ, ℤ, ◌≡◌, ◌⊎◌, Bool, true, false, MatchBool}
+-- Which stop of the machine corresponds to the end of a source's run.
+use Rattle.std.specs.Prelude.{ℕ, ◌≡◌, ◌⊎◌, Bool, true, false, MatchBool}
+use Rattle.fx_c_mean_model.specs.declared.end.End.{End}
+use Rattle.fx_c_mean_model.specs.declared.end.End.TheVariants.{Exit, Denied, StackFull, Divide, BadThread, ThreadsFull, Undefined}
 use Rattle.fx_vm_pages.specs.declared.access.Access.{Access}
 use Rattle.fx_vm_pages.specs.declared.access.Access.TheVariants.{Read, Write}
 use Rattle.fx_vm_pages.specs.declared.access.Refusal.{Refusal}
@@ -13,26 +15,9 @@ use Rattle.fx_machine_model.specs.Layout.{is_ept}
 use Rattle.fx_machine_model.specs.declared.stop.Stop.{Stop}
 use Rattle.fx_machine_model.specs.declared.stop.Stop.TheVariants as stops
 
--- The ends of a source's run, over the source's own objects:
---   Exit         main returned; its value as a signed number of 64 bits
---   Denied       the first access that its compartment isn't granted: a read or a write at an offset
---                of an object
---   StackFull    a call whose frame doesn't fit on the stack of a thread; the stack is the number of
---                the compartment that has it, and 0 where a thread has one stack
---   Divide       a division by zero, or a quotient that doesn't fit
---   BadThread    a switch to a thread that isn't live
---   ThreadsFull  a thread too many was made
---   Undefined    a step that the source's language gives no meaning
-pub data End (Object : Type 0) : Type 0 where
-  Exit : (value : ℤ) → End Object
-  Denied : (compartment : ℕ) (object : Object) (offset : ℕ) (write : Bool) → End Object
-  StackFull : (thread stack : ℕ) → End Object
-  Divide : End Object
-  BadThread : End Object
-  ThreadsFull : End Object
-  Undefined : End Object
-
-abbrev pub IsUndefined : {Object : Type 0} → End Object → Type 0
+-- The ends of a source's run are those of fx_c_mean_model; a denial names its object by the number that it has in the
+-- source's memory.
+abbrev pub IsUndefined : End → Type 0
 IsUndefined Undefined = Unit {0}
 IsUndefined _ = ⊥
 
@@ -54,7 +39,7 @@ IsDenial image address write refusal =
 
 -- The stop that an end corresponds to. `names` says what a place of the image stands for in the
 -- source: an offset of one of its objects, as the run ends.
-abbrev pub Corresponds : {Object : Type 0} → (Found → Object → ℕ → Type 0) → Image → End Object → Stop → Type 0
+abbrev pub Corresponds : (Found → ℕ → ℕ → Type 0) → Image → End → Stop → Type 0
 Corresponds names image (Exit value) (stops.Exit rdi) = value ≡ rdi
 Corresponds names image (Denied compartment object offset write) (stops.Page vcpu domain address access refusal) =
     (domain ≡ compartment) × names (object_at image address) object offset × (access ≡ kind_of write) × IsDenial image address write refusal

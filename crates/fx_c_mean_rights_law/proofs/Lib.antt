@@ -1,0 +1,4 @@
+mod Commutes
+mod Alike
+mod Runs
+mod Granted
