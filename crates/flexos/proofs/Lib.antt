@@ -1,3 +1,4 @@
 pub mod Running
 pub mod Placed
 pub mod Singled
+pub mod Saying

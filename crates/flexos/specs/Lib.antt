@@ -1,5 +1,5 @@
 pub mod Words
-pub mod Execs
 pub mod Runs
 pub mod Places
 pub mod Singles
+pub mod Table

@@ -3,20 +3,18 @@ use Rattle.std.specs.Prelude.{ℕ, ℤ, List, Option}
 use Rattle.fx_base.specs.Told.{Told}
 use Rattle.fx_device.specs.Rules.{Meaning}
 use Rattle.fx_image.specs.declared.forms.Image.{Image}
-use Rattle.fx_run_core.specs.Ran.{Gained}
+use Rattle.fx_cmd_base.specs.Streams.{Streams, Gained}
+use Rattle.fx_cmd_base.specs.Ends.{ErrorStream}
+use Rattle.fx_cmd_base.specs.Words.{RunGiven}
 use Rattle.fx_cmd_run.specs.VerdictLines.{line_of}
 use Rattle.fx_cmd_run.specs.declared.verdict.Verdict.TheVariants.{Exited}
-use Rattle.fx_cmd_base.specs.Words.{RunGiven}
-use Rattle.fx_cmd_run.specs.Comes.{Streams, Ran}
-use Rattle.flexos.specs.Words.{IsRun}
+use Rattle.fx_cmd_run.specs.Comes.{Ran}
 
 -- The command `run` that ended with status 0: the run of the image read ended by Exit, and the line tells its
 -- value and its turns.
-pub record DoneRun (words : List (List ℕ)) (boxes : List (Option Meaning)) (before after : Streams) (told printed : Option (List ℕ)) : Type 0 where
-  pub given : RunGiven
-  pub run : IsRun words given
+pub record DoneRun (given : RunGiven) (boxes : List (Option Meaning)) (before after : Streams) (err : ErrorStream) : Type 0 where
   pub image : Image
   pub value : ℤ
   pub turns : ℕ
   pub ran : Ran given boxes before after image (Exited value turns)
-  pub line : Told (Gained (line_of image (Exited value turns))) told printed
+  pub line : Told (Gained (line_of image (Exited value turns))) err.told err.printed

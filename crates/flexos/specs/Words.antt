@@ -1,38 +1,41 @@
--- The words of a command.
-use Rattle.std.specs.Prelude.{◌≡◌, ℕ, IsTrue, List, [], ◌∷◌, None, Some, codes}
+-- What the words say.
+use Rattle.std.specs.Prelude.{ℕ, ◌&&◌, if◌then◌else◌, List, [], ◌∷◌, Option, None, Some, codes, bytes_eq}
 use Rattle.fx_cmd_base.specs.Words.{RunGiven, ExecGiven, is_file_name, run_words, exec_words}
 use Rattle.fx_cmd_base.specs.Views.{run_given, exec_given}
 use Rattle.fx_cmd_single.specs.Words.{SingleGiven, single_words, single_given}
 use Rattle.flexos.specs.declared.command.Command.{Command}
-use Rattle.flexos.specs.declared.command.Command.TheVariants.{Exec, Run, Place, Single}
+use Rattle.flexos.specs.declared.command.Command.TheVariants as commands
 
--- The words are `exec CONF IMAGE` with these options.
-abbrev pub IsExec : List (List ℕ) → ExecGiven → Type 0
-IsExec words given = exec_words words ≡ Some given
+-- A command with what it is given, or none, which is usage.
+pub data Said : Type 0 where
+  Exec : (given : ExecGiven) → Said
+  Run : (given : RunGiven) → Said
+  Place : (config : List ℕ) → Said
+  Single : (given : SingleGiven) → Said
+  Usage : Said
 
--- They are `run IMAGE` with these options.
-abbrev pub IsRun : List (List ℕ) → RunGiven → Type 0
-IsRun words given = run_words words ≡ Some given
+-- The configuration of `place CONF`.
+abbrev pub place_words : List (List ℕ) → Option (List ℕ)
+place_words [] = None
+place_words (command ∷ []) = None
+place_words (command ∷ config ∷ []) = if bytes_eq command (codes "place") && is_file_name config then Some config else None
+place_words (command ∷ config ∷ next ∷ rest) = None
 
--- They are `place CONF`.
-abbrev pub IsPlace : List (List ℕ) → List ℕ → Type 0
-IsPlace words config = (words ≡ codes "place" ∷ config ∷ []) × IsTrue (is_file_name config)
+abbrev pub first_said : Option ExecGiven → Option RunGiven → Option (List ℕ) → Option SingleGiven → Said
+first_said (Some given) run place single = Exec given
+first_said None (Some given) place single = Run given
+first_said None None (Some config) single = Place config
+first_said None None None (Some given) = Single given
+first_said None None None None = Usage
 
--- They aren't.
-abbrev pub IsNoPlace : List (List ℕ) → Type 0
-IsNoPlace words = (config : List ℕ) → IsPlace words config → ⊥
+-- What these words say. The first word is another for each command.
+abbrev pub said_by : List (List ℕ) → Said
+said_by words = first_said (exec_words words) (run_words words) (place_words words) (single_words words)
 
--- They are `single CONF` with this budget, if one is given.
-abbrev pub IsSingle : List (List ℕ) → SingleGiven → Type 0
-IsSingle words given = single_words words ≡ Some given
-
--- They are no command.
-abbrev pub IsUsage : List (List ℕ) → Type 0
-IsUsage words = (exec_words words ≡ None) × (run_words words ≡ None) × IsNoPlace words × (single_words words ≡ None)
-
--- They are this command.
-abbrev pub IsCommand : List (List ℕ) → Command → Type 0
-IsCommand words (Exec exec) = IsExec words (exec_given exec)
-IsCommand words (Run run) = (exec_words words ≡ None) × IsRun words (run_given run)
-IsCommand words (Place place) = (exec_words words ≡ None) × (run_words words ≡ None) × IsPlace words place.config.now
-IsCommand words (Single single) = (exec_words words ≡ None) × (run_words words ≡ None) × IsNoPlace words × IsSingle words (single_given single)
+-- What a command that was read says.
+abbrev pub said_of : Option Command → Said
+said_of None = Usage
+said_of (Some (commands.Exec exec)) = Exec (exec_given exec)
+said_of (Some (commands.Run run)) = Run (run_given run)
+said_of (Some (commands.Place place)) = Place place.config.now
+said_of (Some (commands.Single single)) = Single (single_given single)

@@ -10,6 +10,9 @@ use std::fs::{self, File};
 use std::io::{self, ErrorKind, Read, Write};
 use std::rt;
 
+#[cfg(test)]
+mod tests;
+
 /// The files of the system.
 #[derive(Drop)]
 pub struct RealFiles<'a, R> {
@@ -32,6 +35,19 @@ fn file_error(error: &io::Error) -> FileError {
     }
 }
 
+/// All bytes of a reader that gives at most so many. A longer one is read to one byte past the limit.
+fn read_whole<R: Read + Drop>(reader: R, alloc: Global, limit: u64) -> Result<Vec<u8>, FileError>
+    ensures { IfOk result (λ v. length v.items ≤ limit) }
+{
+    let mut bytes = Vec::new(alloc);
+    match reader.take(limit.saturating_add(1)).read_to_end(&mut bytes) {
+        Ok(_) if bytes.len() as u64 > limit => Err(FileError::TooLong),
+        Ok(_) => Ok(bytes),
+        Err(error) if error.kind() == ErrorKind::OutOfMemory => Err(FileError::OutOfMemory),
+        Err(_) => Err(FileError::Failed),
+    }
+}
+
 /// The bytes of a file that has at most so many.
 fn read_file<R: rt::Files>(
     rt: &R,
@@ -41,16 +57,9 @@ fn read_file<R: rt::Files>(
 ) -> Result<Vec<u8>, FileError>
     ensures { IfOk result (λ v. length v.items ≤ limit) }
 {
-    let file = match File::open(rt, name) {
-        Ok(file) => file,
-        Err(error) => return Err(file_error(&error)),
-    };
-    let mut bytes = Vec::new(alloc);
-    match file.take(limit.saturating_add(1)).read_to_end(&mut bytes) {
-        Ok(_) if bytes.len() as u64 > limit => Err(FileError::TooLong),
-        Ok(_) => Ok(bytes),
-        Err(error) if error.kind() == ErrorKind::OutOfMemory => Err(FileError::OutOfMemory),
-        Err(_) => Err(FileError::Failed),
+    match File::open(rt, name) {
+        Ok(file) => read_whole(file, alloc, limit),
+        Err(error) => Err(file_error(&error)),
     }
 }
 

@@ -1,7 +1,7 @@
 //! The words of a command.
 
-ghost use Rattle.std.specs.Prelude.{◌≡◌, map, MatchOption, string_bytes};
-ghost use Rattle.flexos.specs.Words.{IsPlace, IsNoPlace, IsUsage, IsCommand};
+ghost use Rattle.std.specs.Prelude.{◌≡◌, map, option_map, string_bytes};
+ghost use Rattle.flexos.specs.Words.{place_words, said_by, said_of};
 
 use fx_cmd_base::words::{ExecWords, RunWords, is_file_name};
 use fx_cmd_single::words::{SingleWords, single_of};
@@ -23,23 +23,27 @@ pub enum Command<'a> {
 
 /// The command `place` that the words are.
 fn place_of(words: &[String]) -> Option<Place<'_>>
-    ensures { MatchOption result (IsNoPlace (map string_bytes words.now)) (λ place. IsPlace (map string_bytes words.now) place.config.now) }
+    ensures { option_map (λ place. place.config.now) result ≡ place_words (map string_bytes words.now) }
 {
-    if words.len() != 2 {
-        return None;
-    }
-    let command = words[0].as_str();
-    let config = words[1].as_str();
-    if command == "place" && is_file_name(config) {
-        Some(Place { config })
-    } else {
-        None
+    match words {
+        [] => None,
+        [_] => None,
+        [command, config] => {
+            if command.as_str() != "place" || !is_file_name(config.as_str()) {
+                return None;
+            }
+            Some(Place {
+                config: config.as_str(),
+            })
+        }
+        _ => None,
     }
 }
 
 /// The command that the words are.
+#[tactic(auto, using(crate::proofs::Saying::exec_said, crate::proofs::Saying::run_said, crate::proofs::Saying::place_said, crate::proofs::Saying::single_said, crate::proofs::Saying::none_said))]
 pub fn command_of(words: &[String]) -> Option<Command<'_>>
-    ensures { MatchOption result (IsUsage (map string_bytes words.now)) (IsCommand (map string_bytes words.now)) }
+    ensures { said_of result ≡ said_by (map string_bytes words.now) }
 {
     match ExecWords::of(words) {
         Some(exec) => Some(Command::Exec(exec)),

@@ -9,7 +9,7 @@ mod top;
 
 use adapters::{RealFiles, StdSink, StdSource};
 use fx_base::Sink;
-use fx_cmd_run::report::report_out_of_memory;
+use fx_cmd_base::report_out_of_memory;
 use fx_device::{BlockStore, Counter, Device};
 use std::alloc::AllocError;
 use std::env;

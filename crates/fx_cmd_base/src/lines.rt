@@ -1,12 +1,14 @@
 //! The lines, part by part.
 
 ghost use Rattle.std.specs.Prelude.{◌≡◌, IfOk, string_bytes};
+ghost use Rattle.fx_cmd_base.specs.ProgramWords.{program_status, program_words};
 ghost use Rattle.fx_cmd_base.specs.RefusalWords.{numbered, parse_kind, grants_kind, place_kind, config_refusal, parse_refusal, types_refusal, grants_refusal, place_refusal, fault_words, file_fault};
 
 use crate::kinds::{config_kind, type_kind};
 use fx_base::FileError;
 use fx_c_parse::ParseError;
 use fx_c_types_rules::fault::TypeKind;
+use fx_cmd_load::ProgramError;
 use fx_config::ConfigError;
 use fx_grants::GrantError;
 use fx_sections::PlaceError;
@@ -106,4 +108,28 @@ pub fn file_fault(alloc: Global, name: &str, error: FileError) -> Result<String,
     let mut line = String::from_str(alloc, words)?;
     line.push_str(name)?;
     Ok(line)
+}
+
+/// The status where there is no checked program: 4 for a file's fault, 3 for a refusal, 6 for want of memory.
+pub fn program_status(error: &ProgramError) -> u8
+    ensures { result ≡ program_status error.now }
+{
+    match error {
+        ProgramError::File { .. } => 4,
+        ProgramError::Config(_) | ProgramError::Parse { .. } | ProgramError::Types { .. } => 3,
+        ProgramError::OutOfMemory => 6,
+    }
+}
+
+/// The words where there is no checked program.
+pub fn program_words(alloc: Global, error: &ProgramError) -> Result<String, AllocError>
+    ensures { IfOk result (λ s. string_bytes s ≡ program_words error.now) }
+{
+    match error {
+        ProgramError::File { name, error } => file_fault(alloc, name.as_str(), *error),
+        ProgramError::Config(error) => config_refusal(alloc, *error),
+        ProgramError::Parse { file, error } => parse_refusal(alloc, *file, *error),
+        ProgramError::Types { kind, declaration } => types_refusal(alloc, *kind, *declaration),
+        ProgramError::OutOfMemory => String::from_str(alloc, "out of memory"),
+    }
 }

@@ -182,7 +182,8 @@ impl<'a> Options<'a> {
 
     /// The options with those of these words.
     fn with_words(self, words: &'a [String]) -> Option<Options<'a>>
-        ensures { option_map given result ≡ options_of (map string_bytes words.now) (given self.entry) }
+        ensures { option_map given result ≡ options_of (map string_bytes words.now)
+            (given self.entry) }
     {
         match words {
             [] => Some(self),

@@ -14,7 +14,9 @@ use Rattle.fx_run_core.proofs.Telling.{told_map}
 use Rattle.fx_cmd_run.specs.Verdicts.{verdict_of, stopped}
 use Rattle.fx_cmd_run.specs.declared.verdict.Verdict.{Verdict}
 use Rattle.fx_cmd_base.specs.Words.{Given, ExecGiven}
-use Rattle.fx_cmd_run.specs.Comes.{Streams, budget_of, RunsImage, ImageComes}
+use Rattle.fx_cmd_base.specs.Streams.{Streams}
+use Rattle.fx_cmd_base.specs.Ends.{ErrorStream}
+use Rattle.fx_cmd_run.specs.Comes.{budget_of, RunsImage, ImageComes}
 use Rattle.fx_cmd_run.specs.Reports.{Reports}
 use Rattle.fx_cmd_run.specs.declared.command.Finished.{Finished}
 use Rattle.fx_cmd_run.specs.declared.load.Unbegun.{Unbegun}
@@ -50,7 +52,7 @@ module _ (constants : List ℕ) (image : Image) (schedule : List ℕ) (budget : 
   puts_by (Device i) plays put cause = absurd plays
   puts_by ReadFault plays put cause = absurd plays
   puts_by WriteFault plays put cause = (
-    cause,
+    cause.1,
     told_map (GainedButLast (outputs made)) (GainedFront constants) (λ x y q. (q.0, (q.1 ∷ plays.0, last_of q.0 q.1 plays.0 plays.1 q.2), q.3)) before.taken after.taken put,
   )
   puts_by OutOfMemory plays put cause = part put plays.0 plays.1
@@ -69,11 +71,11 @@ constants_come law constants options boxes before after image (Ok done) is came 
 constants_come law constants options boxes before after image (Err why) is came = came
 
 -- the image that was built was run, from the moment at which it was written
-pub executes : EarlyRunsPlay → (given : ExecGiven) (boxes : List (Option Meaning)) (before after : Streams) (mid : Option Held) (middle result : ℕ) (told printed : Option (List ℕ)) (quiet loud : ℕ) (constants : List ℕ) (image : Image) (came : Result Finished Unbegun)
+pub executes : EarlyRunsPlay → (given : ExecGiven) (boxes : List (Option Meaning)) (before after : Streams) (mid : Option Held) (middle result : ℕ) (err : ErrorStream) (constants : List ℕ) (image : Image) (came : Result Finished Unbegun)
     → Builds given.config before.held constants image → Writes given.run.image image before.held mid → before.file_faults ≤ middle → Told SameFiles mid after.held
-    → ImageComes given.run.options boxes (record before { held = mid; file_faults = middle }) after image came → Reports given.run came result told printed quiet loud
-    → Executes given boxes before after result told printed quiet loud
-executes law given boxes before after mid middle result told printed quiet loud constants image came b w later same comes reports = record {
+    → ImageComes given.run.options boxes (record before { held = mid; file_faults = middle }) after image came → Reports given.run came result err
+    → Executes given boxes before after result err
+executes law given boxes before after mid middle result err constants image came b w later same comes reports = record {
   constants = constants;
   image = image;
   builds = b;

@@ -3,15 +3,15 @@ use Rattle.std.proofs.Common.{◌≡◌, ℕ, pos, ◌<◌, List, Option, Result
 use Rattle.fx_base.specs.Told.{Told}
 use Rattle.fx_device.specs.Rules.{Meaning}
 use Rattle.fx_image.specs.declared.forms.Image.{Image}
-use Rattle.fx_run_core.specs.Ran.{Gained}
 use Rattle.fx_cmd_run.specs.VerdictLines.{line_of}
 use Rattle.fx_cmd_run.specs.Verdicts.{status_of}
 use Rattle.fx_cmd_run.specs.declared.verdict.Verdict.{Verdict}
 use Rattle.fx_cmd_run.specs.declared.verdict.Verdict.TheVariants.{Exited, Denied, StackFull, Divide, BadThread, ThreadsFull, Invalid, Protection, Aborted, Page, Spent, DeviceFault, ReadFault, WriteFault, OutOfMemory}
 use Rattle.fx_cmd_base.specs.Words.{ExecGiven}
-use Rattle.fx_cmd_run.specs.Comes.{Streams}
+use Rattle.fx_cmd_base.specs.Streams.{Streams, Gained}
+use Rattle.fx_cmd_base.specs.Ends.{ErrorStream}
 use Rattle.fx_cmd_run.specs.Lines.{unbegun_status}
-use Rattle.fx_cmd_run.specs.Reports.{Ended, Reports}
+use Rattle.fx_cmd_run.specs.Reports.{Reports}
 use Rattle.fx_cmd_run.specs.declared.command.Finished.{Finished}
 use Rattle.fx_cmd_run.specs.declared.load.Unbegun.{Unbegun}
 use Rattle.fx_cmd_run.specs.declared.load.Unbegun.TheVariants as unbegun
@@ -35,15 +35,15 @@ unbuilt_usage (unbuilt.Refused early) status = omega arith
 unbuilt_usage (unbuilt.FileFault which error) status = omega arith
 unbuilt_usage unbuilt.OutOfMemory status = omega arith
 
-none_usage : (given : ExecGiven) (why : Unbuilt) (result : ℕ) (told printed : Option (List ℕ)) (quiet loud : ℕ) → ReportsUnbuilt given why result told printed quiet loud → result ≡ 2 → ⊥
-none_usage given why result told printed quiet loud (inl (inl own)) two = unbuilt_usage why (sym own.0 ∙ two)
-none_usage given why result told printed quiet loud (inl (inr fault)) two = omega (arith, fault.0)
-none_usage given why result told printed quiet loud (inr (inl memory)) two = omega (arith, memory.0)
-none_usage given why result told printed quiet loud (inr (inr fault)) two = omega (arith, fault.0)
+none_usage : (given : ExecGiven) (why : Unbuilt) (result : ℕ) (err : ErrorStream) → ReportsUnbuilt given why result err → result ≡ 2 → ⊥
+none_usage given why result err (inl (inl own)) two = unbuilt_usage why (sym own.0 ∙ two)
+none_usage given why result err (inl (inr fault)) two = omega (arith, fault.0)
+none_usage given why result err (inr (inl memory)) two = omega (arith, memory.0)
+none_usage given why result err (inr (inr fault)) two = omega (arith, fault.0)
 
-pub not_usage : (given : ExecGiven) (boxes : List (Option Meaning)) (before after : Streams) (result : ℕ) (told printed : Option (List ℕ)) (quiet loud : ℕ) → DoesExec given boxes before after result told printed quiet loud → result ≡ 2 → ⊥
-not_usage given boxes before after result told printed quiet loud (inl e) two = reports_usage given.run e.came result told printed quiet loud e.reports two
-not_usage given boxes before after result told printed quiet loud (inr n) two = none_usage given n.why result told printed quiet loud n.reports two
+pub not_usage : (given : ExecGiven) (boxes : List (Option Meaning)) (before after : Streams) (result : ℕ) (err : ErrorStream) → DoesExec given boxes before after result err → result ≡ 2 → ⊥
+not_usage given boxes before after result err (inl e) two = reports_usage given.run e.came result err e.reports two
+not_usage given boxes before after result err (inr n) two = none_usage given n.why result err n.reports two
 
 -- ---- status 0
 
@@ -52,26 +52,26 @@ unbuilt_some (unbuilt.Refused early) status = apart 3 3 0 refl status (omega ari
 unbuilt_some (unbuilt.FileFault which error) status = apart 4 4 0 refl status (omega arith)
 unbuilt_some unbuilt.OutOfMemory status = apart 6 6 0 refl status (omega arith)
 
-none_done : {P : Type 0} (given : ExecGiven) (why : Unbuilt) (result : ℕ) (told printed : Option (List ℕ)) (quiet loud : ℕ) → ReportsUnbuilt given why result told printed quiet loud → result ≡ 0 → P
-none_done given why result told printed quiet loud (inl (inl own)) none = unbuilt_some why (sym own.0 ∙ none)
-none_done given why result told printed quiet loud (inl (inr fault)) none = apart 5 result 0 fault.0 none (omega arith)
-none_done given why result told printed quiet loud (inr (inl memory)) none = apart 6 result 0 memory.0 none (omega arith)
-none_done given why result told printed quiet loud (inr (inr fault)) none = apart 5 result 0 fault.0 none (omega arith)
+none_done : {P : Type 0} (given : ExecGiven) (why : Unbuilt) (result : ℕ) (err : ErrorStream) → ReportsUnbuilt given why result err → result ≡ 0 → P
+none_done given why result err (inl (inl own)) none = unbuilt_some why (sym own.0 ∙ none)
+none_done given why result err (inl (inr fault)) none = apart 5 result 0 fault.0 none (omega arith)
+none_done given why result err (inr (inl memory)) none = apart 6 result 0 memory.0 none (omega arith)
+none_done given why result err (inr (inr fault)) none = apart 5 result 0 fault.0 none (omega arith)
 
 unbegun_some : {P : Type 0} (why : Unbegun) → unbegun_status why ≡ 0 → P
 unbegun_some (unbegun.Unread file error) status = apart 4 4 0 refl status (omega arith)
 unbegun_some (unbegun.Refused error) status = apart 3 3 0 refl status (omega arith)
 unbegun_some unbegun.OutOfMemory status = apart 6 6 0 refl status (omega arith)
 
-module _ (given : ExecGiven) (boxes : List (Option Meaning)) (before after : Streams) (told printed : Option (List ℕ)) (constants : List ℕ) (image : Image) (b : Builds given.config before.held constants image) (w : Writes given.run.image image before.held after.held) where
+module _ (given : ExecGiven) (boxes : List (Option Meaning)) (before after : Streams) (err : ErrorStream) (constants : List ℕ) (image : Image) (b : Builds given.config before.held constants image) (w : Writes given.run.image image before.held after.held) where
   abbrev Ran : Verdict → Type 0
   Ran verdict = RunsConstants constants given.run.options boxes (once_written before after) after image verdict
 
   abbrev Line : Verdict → Type 0
-  Line verdict = Told (Gained (line_of image verdict)) told printed
+  Line verdict = Told (Gained (line_of image verdict)) err.told err.printed
 
   abbrev Whole : Type 0
-  Whole = DoneExec given boxes before after told printed
+  Whole = DoneExec given boxes before after err
 
   exited : (turns : ℕ) → Ran (Exited (pos 0) turns) × Line (Exited (pos 0) turns) → Whole
   exited turns (ran, line) = record {
@@ -103,15 +103,15 @@ module _ (given : ExecGiven) (boxes : List (Option Meaning)) (before after : Str
   by_verdict WriteFault ran line status = apart 5 5 0 refl status (omega arith)
   by_verdict OutOfMemory ran line status = apart 6 6 0 refl status (omega arith)
 
-  by_came : (came : Result Finished Unbegun) (result quiet loud : ℕ) → ConstantsCome constants given.run.options boxes (once_written before after) after image came → Reports given.run came result told printed quiet loud → result ≡ 0 → Whole
-  by_came (Ok done) result quiet loud comes (inl (inl own)) none =
-      by_verdict done.verdict comes.1 (subst (λ (i : Image). Told (Gained (line_of i done.verdict)) told printed) comes.0 own.1) (sym own.0 ∙ none)
-  by_came (Err why) result quiet loud comes (inl (inl own)) none = unbegun_some why (sym own.0 ∙ none)
-  by_came came result quiet loud comes (inl (inr fault)) none = apart 5 result 0 fault.0 none (omega arith)
-  by_came came result quiet loud comes (inr (inl memory)) none = apart 6 result 0 memory.0 none (omega arith)
-  by_came came result quiet loud comes (inr (inr fault)) none = apart 5 result 0 fault.0 none (omega arith)
+  by_came : (came : Result Finished Unbegun) (result : ℕ) → ConstantsCome constants given.run.options boxes (once_written before after) after image came → Reports given.run came result err → result ≡ 0 → Whole
+  by_came (Ok done) result comes (inl (inl own)) none =
+      by_verdict done.verdict comes.1 (subst (λ (i : Image). Told (Gained (line_of i done.verdict)) err.told err.printed) comes.0 own.1) (sym own.0 ∙ none)
+  by_came (Err why) result comes (inl (inl own)) none = unbegun_some why (sym own.0 ∙ none)
+  by_came came result comes (inl (inr fault)) none = apart 5 result 0 fault.0 none (omega arith)
+  by_came came result comes (inr (inl memory)) none = apart 6 result 0 memory.0 none (omega arith)
+  by_came came result comes (inr (inr fault)) none = apart 5 result 0 fault.0 none (omega arith)
 
-pub done : (given : ExecGiven) (boxes : List (Option Meaning)) (before after : Streams) (result : ℕ) (told printed : Option (List ℕ)) (quiet loud : ℕ) → DoesExec given boxes before after result told printed quiet loud → result ≡ 0
-    → DoneExec given boxes before after told printed
-done given boxes before after result told printed quiet loud (inl e) none = by_came given boxes before after told printed e.constants e.image e.builds e.writes e.came result quiet loud e.comes e.reports none
-done given boxes before after result told printed quiet loud (inr n) none = none_done given n.why result told printed quiet loud n.reports none
+pub done : (given : ExecGiven) (boxes : List (Option Meaning)) (before after : Streams) (result : ℕ) (err : ErrorStream) → DoesExec given boxes before after result err → result ≡ 0
+    → DoneExec given boxes before after err
+done given boxes before after result err (inl e) none = by_came given boxes before after err e.constants e.image e.builds e.writes e.came result e.comes e.reports none
+done given boxes before after result err (inr n) none = none_done given n.why result err n.reports none

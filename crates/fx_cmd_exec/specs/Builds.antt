@@ -8,7 +8,7 @@ use Rattle.fx_image.specs.Rules.{IsImage}
 use Rattle.fx_image.specs.Spelling.{image_spelling}
 use Rattle.fx_image.specs.declared.forms.Image.{Image}
 use Rattle.fx_cmd_base.specs.Words.{ExecGiven}
-use Rattle.fx_cmd_run.specs.Causes.{HasContent}
+use Rattle.fx_cmd_load.specs.Reading.{HasContent}
 use Rattle.fx_cmd_exec.specs.declared.unbuilt.Unbuilt.{Unbuilt}
 use Rattle.fx_cmd_exec.specs.declared.unbuilt.Unbuilt.TheVariants.{Refused, FileFault, OutOfMemory}
 use Rattle.fx_cmd_exec.specs.declared.unbuilt.Early.TheVariants as early

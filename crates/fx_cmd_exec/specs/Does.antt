@@ -4,16 +4,18 @@ use Rattle.fx_base.specs.Told.{Told}
 use Rattle.fx_device.specs.Rules.{Meaning}
 use Rattle.fx_image.specs.declared.forms.Image.{Image}
 use Rattle.fx_early_law.specs.Plays.{turns_within}
-use Rattle.fx_run_core.specs.Ran.{Gained}
 use Rattle.fx_cmd_run.specs.VerdictLines.{line_of}
 use Rattle.fx_cmd_run.specs.declared.verdict.Verdict.TheVariants.{Exited}
 use Rattle.fx_cmd_base.specs.Words.{ExecGiven}
-use Rattle.fx_cmd_run.specs.Comes.{Streams, budget_of, RunsImage}
+use Rattle.fx_cmd_base.specs.Streams.{Streams, Untouched, Gained}
+use Rattle.fx_cmd_base.specs.Ends.{ErrorStream}
+use Rattle.fx_cmd_run.specs.Comes.{budget_of, RunsImage}
 use Rattle.fx_cmd_run.specs.Reports.{Reports}
 use Rattle.fx_cmd_run.specs.declared.command.Finished.{Finished}
 use Rattle.fx_cmd_run.specs.declared.load.Unbegun.{Unbegun}
 use Rattle.fx_cmd_exec.specs.declared.unbuilt.Unbuilt.{Unbuilt}
 use Rattle.fx_cmd_exec.specs.Builds.{Builds, Writes, WhyUnbuilt}
+use Rattle.fx_cmd_exec.specs.Causes.{UnbuiltLeaves}
 use Rattle.fx_cmd_exec.specs.Runs.{ConstantsCome}
 use Rattle.fx_cmd_exec.specs.Reports.{ReportsUnbuilt}
 
@@ -23,31 +25,31 @@ abbrev pub once_written : Streams → Streams → Streams
 once_written before after = record before { held = after.held }
 
 -- An image was built and written; what its run came to, and the line and the status of that.
-pub record Executes (given : ExecGiven) (boxes : List (Option Meaning)) (before after : Streams) (result : ℕ) (told printed : Option (List ℕ)) (quiet loud : ℕ) : Type 0 where
+pub record Executes (given : ExecGiven) (boxes : List (Option Meaning)) (before after : Streams) (result : ℕ) (err : ErrorStream) : Type 0 where
   pub constants : List ℕ
   pub image : Image
   pub builds : Builds given.config before.held constants image
   pub writes : Writes given.run.image image before.held after.held
   pub came : Result Finished Unbegun
   pub comes : ConstantsCome constants given.run.options boxes (once_written before after) after image came
-  pub reports : Reports given.run came result told printed quiet loud
+  pub reports : Reports given.run came result err
 
 -- No image was written: why, that neither input nor output was touched, and the line and the status of that.
-pub record BuildsNone (given : ExecGiven) (before after : Streams) (result : ℕ) (told printed : Option (List ℕ)) (quiet loud : ℕ) : Type 0 where
+pub record BuildsNone (given : ExecGiven) (before after : Streams) (result : ℕ) (err : ErrorStream) : Type 0 where
   pub why : Unbuilt
   pub why_not : WhyUnbuilt given before.held after.held before.file_faults after.file_faults why
-  pub input : after.left ≡ before.left
-  pub output : after.taken ≡ before.taken
-  pub reports : ReportsUnbuilt given why result told printed quiet loud
+  pub counted : UnbuiltLeaves before.held before.file_faults after.file_faults why
+  pub untouched : Untouched before after
+  pub reports : ReportsUnbuilt given why result err
 
-abbrev pub DoesExec : ExecGiven → List (Option Meaning) → Streams → Streams → ℕ → Option (List ℕ) → Option (List ℕ) → ℕ → ℕ → Type 0
-DoesExec given boxes before after result told printed quiet loud =
-    Executes given boxes before after result told printed quiet loud ⊎ BuildsNone given before after result told printed quiet loud
+abbrev pub DoesExec : ExecGiven → List (Option Meaning) → Streams → Streams → ℕ → ErrorStream → Type 0
+DoesExec given boxes before after result err =
+    Executes given boxes before after result err ⊎ BuildsNone given before after result err
 
 -- The command that ended with status 0: the image's spelling stands under the name, of an image that is
 -- faithful to the source read; it was run as the options say; the output took the source's constants in order
 -- and nothing else; and the line tells the turns that the run makes by that schedule within that budget.
-pub record DoneExec (given : ExecGiven) (boxes : List (Option Meaning)) (before after : Streams) (told printed : Option (List ℕ)) : Type 0 where
+pub record DoneExec (given : ExecGiven) (boxes : List (Option Meaning)) (before after : Streams) (err : ErrorStream) : Type 0 where
   pub constants : List ℕ
   pub image : Image
   pub builds : Builds given.config before.held constants image
@@ -56,4 +58,4 @@ pub record DoneExec (given : ExecGiven) (boxes : List (Option Meaning)) (before 
   pub run : RunsImage given.run.options boxes (once_written before after) after image (Exited (pos 0) turns)
   pub turns_made : turns ≡ turns_within image run.schedule (budget_of given.run.options)
   pub took : Told (Gained constants) before.taken after.taken
-  pub line : Told (Gained (line_of image (Exited (pos 0) turns))) told printed
+  pub line : Told (Gained (line_of image (Exited (pos 0) turns))) err.told err.printed

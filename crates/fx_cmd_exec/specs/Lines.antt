@@ -2,7 +2,7 @@
 use Rattle.std.specs.Prelude.{ℕ, List, [], ◌∷◌, ◌++◌, codes}
 use Rattle.std.specs.Fmt.{decimal}
 use Rattle.fx_cmd_base.specs.Words.{ExecGiven}
-use Rattle.fx_cmd_run.specs.Lines.{file_words}
+use Rattle.fx_cmd_base.specs.RefusalWords.{file_fault}
 use Rattle.fx_cmd_exec.specs.declared.unbuilt.Which.{Which}
 use Rattle.fx_cmd_exec.specs.declared.unbuilt.Which.TheVariants as which
 use Rattle.fx_cmd_exec.specs.declared.unbuilt.Early.{Early}
@@ -31,7 +31,7 @@ refusal_words (early.Source number) = codes "refused: early Source " ++ decimal 
 
 abbrev pub unbuilt_words : ExecGiven → Unbuilt → List ℕ
 unbuilt_words given (Refused why) = refusal_words why
-unbuilt_words given (FileFault which error) = file_words error ++ name_of given which
+unbuilt_words given (FileFault which error) = file_fault (name_of given which) error
 unbuilt_words given OutOfMemory = codes "out of memory"
 
 -- The line, ended by a line feed.

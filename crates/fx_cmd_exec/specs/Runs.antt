@@ -6,11 +6,11 @@ use Rattle.fx_outcomes.specs.Keeping.{IsPrefix}
 use Rattle.fx_device.specs.Rules.{Meaning}
 use Rattle.fx_image.specs.declared.forms.Image.{Image}
 use Rattle.fx_early_law.specs.Plays.{stop_within, turns_within}
-use Rattle.fx_run_core.specs.Ran.{Gained}
 use Rattle.fx_cmd_run.specs.declared.verdict.Verdict.{Verdict}
 use Rattle.fx_cmd_run.specs.declared.verdict.Verdict.TheVariants.{Exited, Spent, WriteFault, OutOfMemory}
 use Rattle.fx_cmd_base.specs.Words.{Given}
-use Rattle.fx_cmd_run.specs.Comes.{Streams, budget_of, RunsImage, NotRun}
+use Rattle.fx_cmd_base.specs.Streams.{Streams, Gained}
+use Rattle.fx_cmd_run.specs.Comes.{budget_of, RunsImage, NotRun}
 use Rattle.fx_cmd_run.specs.declared.command.Finished.{Finished}
 use Rattle.fx_cmd_run.specs.declared.load.Unbegun.{Unbegun}
 

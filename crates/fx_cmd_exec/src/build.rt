@@ -8,7 +8,7 @@ ghost use Rattle.fx_early_image.specs.Faithful.{EarlyFaithful};
 ghost use Rattle.fx_image.specs.Rules.{IsImage};
 ghost use Rattle.fx_image.specs.Spelling.{image_spelling};
 ghost use Rattle.fx_cmd_base.specs.Views.{exec_given};
-ghost use Rattle.fx_cmd_exec.specs.Causes.{ImageCause};
+ghost use Rattle.fx_cmd_exec.specs.Causes.{ImageCause, UnbuiltLeaves};
 ghost use Rattle.fx_cmd_exec.specs.Builds.{Builds, Writes, WhyUnbuilt};
 
 use crate::inputs::{take_config, take_source};
@@ -26,7 +26,8 @@ fn write_image<F: Files>(
     name: &str,
     bytes: &[u8],
 ) -> Result<(), Unbuilt>
-    ensures written { Told (λ old new. OnOk result (new name.now ≡ Some bytes.now)) (F.held files.old) (F.held files.new) }
+    ensures written { Told (λ old new. OnOk result (new name.now ≡ Some bytes.now))
+        (F.held files.old) (F.held files.new) }
     ensures others { Told (SameElsewhere name.now) (F.held files.old) (F.held files.new) }
     ensures later { F.faults files.old ≤ F.faults files.new }
     ensures cause { IfErr result (ImageCause (F.faults files.old) (F.faults files.new)) }
@@ -52,7 +53,9 @@ fn make_image<F: Files>(
     ensures value { IfOk result (λ i. i ≡ early_image constants.now) }
     ensures rules { IfOk result (λ i. IsImage i) }
     ensures faithful { IfOk result (λ i. EarlyFaithful constants.now i) }
-    ensures written { IfOk result (λ i. Told (λ old new. new name.now ≡ Some (image_spelling i)) (F.held files.old) (F.held files.new)) }
+    ensures written { IfOk result (λ i.
+        Told (λ old new. new name.now ≡ Some (image_spelling i)) (F.held files.old)
+        (F.held files.new)) }
     ensures others { Told (SameElsewhere name.now) (F.held files.old) (F.held files.new) }
     ensures later { F.faults files.old ≤ F.faults files.new }
     ensures cause { IfErr result (ImageCause (F.faults files.old) (F.faults files.new)) }
@@ -69,9 +72,14 @@ pub fn build_image<F: Files>(
     files: &mut F,
     words: &ExecWords<'_>,
 ) -> Result<Image, Unbuilt>
-    ensures built { IfOk result (λ i. (constants : List ℕ) × Builds (exec_given words.now).config (F.held files.old) constants i) }
-    ensures written { IfOk result (λ i. Writes (exec_given words.now).run.image i (F.held files.old) (F.held files.new)) }
-    ensures unbuilt { IfErr result (WhyUnbuilt (exec_given words.now) (F.held files.old) (F.held files.new) (F.faults files.old) (F.faults files.new)) }
+    ensures built { IfOk result (λ i. (constants : List ℕ)
+        × Builds (exec_given words.now).config (F.held files.old) constants i) }
+    ensures written { IfOk result (λ i.
+        Writes (exec_given words.now).run.image i (F.held files.old) (F.held files.new)) }
+    ensures unbuilt { IfErr result (WhyUnbuilt (exec_given words.now)
+        (F.held files.old) (F.held files.new) (F.faults files.old) (F.faults files.new)) }
+    ensures counted { IfErr result (UnbuiltLeaves (F.held files.old) (F.faults files.old)
+        (F.faults files.new)) }
     ensures later { F.faults files.old ≤ F.faults files.new }
 {
     take_config(alloc, files, words.config)?;

@@ -1,11 +1,10 @@
 //! The files that the building reads: the configuration, and then the source.
 
-ghost use Rattle.std.specs.Prelude.{◌≡◌, ℕ, ◌≤◌, List, Option, Some, IfOk, IfErr, OnOk, IfSome};
+ghost use Rattle.std.specs.Prelude.{◌≤◌, IfOk, IfErr, OnOk, MatchResult};
 ghost use Rattle.fx_base.specs.Told.{Told};
 ghost use Rattle.fx_base.specs.Files.{SameFiles};
-ghost use Rattle.fx_cmd_run.specs.Causes.{HasContent};
-ghost use Rattle.fx_cmd_exec.specs.Lines.{source_name};
-ghost use Rattle.fx_cmd_exec.specs.Causes.{HasProgram, ReadingFault, ConfigCause, SourceCause, config_limit, source_limit, early_document, IsSourceRefused};
+ghost use Rattle.fx_cmd_load.specs.Reading.{HasContent, LeavesCount};
+ghost use Rattle.fx_cmd_exec.specs.Causes.{HasProgram, ConfigCause, SourceCause, UnbuiltLeaves, early_document, IsSourceRefused};
 ghost use Rattle.fx_early_source.specs.Grammar.{IsProgram};
 
 use crate::unbuilt::{Early, SOURCE, Unbuilt, Which};
@@ -27,8 +26,12 @@ const SOURCE_LIMIT: u64 = 1_048_576;
 pub fn take_config<F: Files>(alloc: Global, files: &mut F, name: &str) -> Result<(), Unbuilt>
     ensures keeps { Told SameFiles (F.held files.old) (F.held files.new) }
     ensures later { F.faults files.old ≤ F.faults files.new }
+    ensures counted { MatchResult result (λ _. LeavesCount (F.held files.old) (F.faults files.old)
+        (F.faults files.new))
+        (UnbuiltLeaves (F.held files.old) (F.faults files.old) (F.faults files.new)) }
     ensures ok { OnOk result (HasContent (F.held files.old) name.now early_document) }
-    ensures cause { IfErr result (ConfigCause name.now (F.held files.old) (F.faults files.old) (F.faults files.new)) }
+    ensures cause { IfErr result (ConfigCause name.now (F.held files.old) (F.faults files.old)
+        (F.faults files.new)) }
 {
     match files.read(alloc, name, CONFIG_LIMIT) {
         Ok(text) if text.as_slice() == EARLY_DOCUMENT.as_bytes() => Ok(()),
@@ -45,8 +48,12 @@ pub fn take_config<F: Files>(alloc: Global, files: &mut F, name: &str) -> Result
 pub fn take_source<F: Files>(alloc: Global, files: &mut F) -> Result<Vec<u8>, Unbuilt>
     ensures keeps { Told SameFiles (F.held files.old) (F.held files.new) }
     ensures later { F.faults files.old ≤ F.faults files.new }
+    ensures counted { MatchResult result (λ _. LeavesCount (F.held files.old) (F.faults files.old)
+        (F.faults files.new))
+        (UnbuiltLeaves (F.held files.old) (F.faults files.old) (F.faults files.new)) }
     ensures ok { IfOk result (λ v. HasProgram (F.held files.old) v.items) }
-    ensures cause { IfErr result (SourceCause (F.held files.old) (F.faults files.old) (F.faults files.new)) }
+    ensures cause { IfErr result (SourceCause (F.held files.old) (F.faults files.old)
+        (F.faults files.new)) }
 {
     match files.read(alloc, SOURCE, SOURCE_LIMIT) {
         Ok(text) => constants_of(alloc, &text),

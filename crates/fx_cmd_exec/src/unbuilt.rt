@@ -5,8 +5,8 @@ ghost use Rattle.fx_cmd_base.specs.Views.{exec_given};
 ghost use Rattle.fx_cmd_exec.specs.Lines.{name_of, unbuilt_status, unbuilt_words, unbuilt_line};
 
 use fx_base::FileError;
+use fx_cmd_base::file_fault;
 use fx_cmd_base::words::ExecWords;
-use fx_cmd_run::line::fault_words;
 use std::alloc::{AllocError, Global};
 
 /// The name of the source.
@@ -81,7 +81,7 @@ impl Unbuilt {
             Unbuilt::Refused(Early::Source(number)) => {
                 format!(in alloc; "refused: early Source {number}")
             }
-            Unbuilt::FileFault { which, error } => fault_words(alloc, name_of(words, which), error),
+            Unbuilt::FileFault { which, error } => file_fault(alloc, name_of(words, which), error),
             Unbuilt::OutOfMemory => String::from_str(alloc, "out of memory"),
         }
     }

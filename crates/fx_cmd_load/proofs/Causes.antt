@@ -9,7 +9,8 @@ use Rattle.fx_cmd_load.specs.declared.parsing.ParsedFile.{ParsedFile}
 use Rattle.fx_cmd_load.specs.declared.program_error.ProgramError.{ProgramError}
 use Rattle.fx_cmd_load.specs.declared.program_error.ProgramError.TheVariants as program
 use Rattle.fx_cmd_load.specs.Errors.{unloaded}
-use Rattle.fx_cmd_load.specs.Programs.{ProgramCause, BreaksRule}
+use Rattle.fx_cmd_load.specs.Reading.{LeavesCount, ErrorLeaves}
+use Rattle.fx_cmd_load.specs.Programs.{ProgramCause, ProgramLeaves, BreaksRule}
 
 pub unloaded_cause : (name : List ℕ) (held : Option Held) (before now : ℕ) (error : LoadError) → LoadCause name held before now error → ProgramCause name held before now (unloaded error)
 unloaded_cause name held before now (File n error) cause = cause
@@ -23,3 +24,16 @@ broken name held before now k files (program.File n error) loaded breaks = absur
 broken name held before now k files (program.Config error) loaded breaks = absurd breaks
 broken name held before now k files (program.Parse file error) loaded breaks = absurd breaks
 broken name held before now k files program.OutOfMemory loaded breaks = tt
+
+pub unloaded_leaves : (held : Option Held) (before now : ℕ) (error : LoadError) → ErrorLeaves held before now error → ProgramLeaves held before now (unloaded error)
+unloaded_leaves held before now (File name error) leaves = leaves
+unloaded_leaves held before now (Config error) leaves = leaves
+unloaded_leaves held before now (Parse file error) leaves = leaves
+unloaded_leaves held before now OutOfMemory leaves = leaves
+
+pub breaks_leave : (held : Option Held) (before now : ℕ) (files : List ParsedFile) (error : ProgramError) → BreaksRule files error → LeavesCount held before now → ProgramLeaves held before now error
+breaks_leave held before now files (program.Types kind declaration) breaks same = same
+breaks_leave held before now files (program.File name error) breaks same = absurd breaks
+breaks_leave held before now files (program.Config error) breaks same = same
+breaks_leave held before now files (program.Parse file error) breaks same = same
+breaks_leave held before now files program.OutOfMemory breaks same = tt

@@ -1,5 +1,5 @@
 -- Files that are read one after the other.
-use Rattle.std.proofs.Common.{◌≡◌, ℕ, suc, ◌+◌, ◌<◌, ◌≤◌, List, [], ◌∷◌, ◌++◌, length, take, drop, get_or, Option, Some, None, drop-cons, refl, sym, ap, subst, ◌∙◌, arith}
+use Rattle.std.proofs.Common.{◌≡◌, ℕ, suc, ◌+◌, ◌<◌, ◌≤◌, List, [], ◌∷◌, ◌++◌, length, take, drop, get_or, Option, Some, None, IsSome, drop-cons, refl, sym, ap, subst, ◌∙◌, arith}
 use Rattle.fx_base.specs.Told.{Told}
 use Rattle.fx_base.specs.Files.{Held, SameFiles, IsLonger}
 use Rattle.fx_base.specs.declared.files.FileError.{FileError}
@@ -10,7 +10,7 @@ use Rattle.std.proofs.lemmas.List.{take_more, take-append-drop, map-append}
 use Rattle.fx_cmd_load.specs.declared.named.SourceName.{SourceName}
 use Rattle.fx_cmd_load.specs.declared.reading.SourceText.{SourceText}
 use Rattle.fx_cmd_load.specs.Named.{Named, source_file, source_files}
-use Rattle.fx_cmd_load.specs.Reading.{source_limit, HasContent, ReadingFault, WasNotRead, texts_of, AreRead, OneWasNotRead}
+use Rattle.fx_cmd_load.specs.Reading.{source_limit, HasContent, WasRead, LeavesCount, FaultLeaves, ErrorLeaves, ReadingFault, WasNotRead, texts_of, AreRead, OneWasNotRead}
 
 pub same_twice : (a b c : Option Held) → Told SameFiles a b → Told SameFiles b c → Told SameFiles a c
 same_twice None None None p q = tt
@@ -26,6 +26,30 @@ content_before None None name bytes same content = content
 content_before None (Some y) name bytes same content = absurd same
 content_before (Some x) None name bytes same content = absurd same
 content_before (Some x) (Some y) name bytes same content = sym (same name) ∙ content
+
+pub was_before : (limit : ℕ) (a b : Option Held) (name bytes : List ℕ) → Told SameFiles a b → WasRead limit b name bytes → WasRead limit a name bytes
+was_before limit a b name bytes same read = (content_before a b name bytes same read.0, read.1)
+
+none_told : IsSome {T = Held} None → ⊥
+none_told told = cc
+
+-- a count that two readings left
+pub counted_twice : (a b : Option Held) (first before now : ℕ) → Told SameFiles a b → LeavesCount a first before → LeavesCount b before now → LeavesCount a first now
+counted_twice None b first before now same p q = λ told. absurd (none_told told)
+counted_twice (Some x) None first before now same p q = absurd same
+counted_twice (Some x) (Some y) first before now same p q = λ told. q told ∙ p told
+
+pub fault_leaves : (error : FileError) (a b : Option Held) (first before now : ℕ) → Told SameFiles a b → LeavesCount a first before → FaultLeaves error b before now → FaultLeaves error a first now
+fault_leaves files.Failed a b first before now same p q = tt
+fault_leaves files.Missing a b first before now same p q = counted_twice a b first before now same p q
+fault_leaves files.TooLong a b first before now same p q = counted_twice a b first before now same p q
+fault_leaves files.OutOfMemory a b first before now same p q = counted_twice a b first before now same p q
+
+pub error_leaves : (a b : Option Held) (first before now : ℕ) (error : LoadError) → Told SameFiles a b → LeavesCount a first before → ErrorLeaves b before now error → ErrorLeaves a first now error
+error_leaves a b first before now (File name error) same p q = fault_leaves error a b first before now same p q
+error_leaves a b first before now (Config error) same p q = counted_twice a b first before now same p q
+error_leaves a b first before now (Parse file error) same p q = counted_twice a b first before now same p q
+error_leaves a b first before now OutOfMemory same p q = tt
 
 pub read_before : (a b : Option Held) (names : List Named) (texts : List (List ℕ)) → Told SameFiles a b → AreRead b names texts → AreRead a names texts
 read_before a b [] [] same read = tt

@@ -8,7 +8,9 @@ use Rattle.fx_cmd_load.specs.declared.error.LoadError.{LoadError}
 use Rattle.fx_cmd_load.specs.declared.error.LoadError.TheVariants.{File, Config, Parse, OutOfMemory}
 use Rattle.fx_cmd_load.specs.Named.{Named, from_library}
 use Rattle.fx_cmd_load.specs.Reading.{source_limit, StopsReading}
-use Rattle.fx_cmd_load.specs.Loading.{IsConfigured, SourcesCause, LoadCause}
+use Rattle.fx_cmd_load.specs.Reading.{LeavesCount, ErrorLeaves}
+use Rattle.fx_cmd_load.specs.Parsing.{OneHasNoTree}
+use Rattle.fx_cmd_load.specs.Loading.{IsConfigured, RefusesConfiguration, SourcesCause, LoadCause}
 use Rattle.fx_cmd_load.proofs.Stages.{read_before, fault_before}
 
 stops_before : (a b : Option Held) (first before now : ℕ) (names : List Named) (name : List ℕ) (error : FileError) → Told SameFiles a b → first ≤ before → StopsReading b before now names name error → StopsReading a first now names name error
@@ -29,3 +31,17 @@ sources_failed name a b first before now k (File n error) same le is cause = inr
 sources_failed name a b first before now k (Config error) same le is cause = absurd cause
 sources_failed name a b first before now k (Parse file error) same le is cause = (k, is, (cause.0, read_before a b (from_library 0 k.libraries) cause.0 same cause.1, cause.2))
 sources_failed name a b first before now k OutOfMemory same le is cause = tt
+
+-- ---- the count of faults, where what was read is refused
+
+pub configuration_leaves : (text : List ℕ) (held : Option Held) (before now : ℕ) (error : LoadError) → RefusesConfiguration text error → LeavesCount held before now → ErrorLeaves held before now error
+configuration_leaves text held before now (File name error) refuses same = absurd refuses
+configuration_leaves text held before now (Config error) refuses same = same
+configuration_leaves text held before now (Parse file error) refuses same = same
+configuration_leaves text held before now OutOfMemory refuses same = tt
+
+pub trees_leave : (texts : List (List ℕ)) (held : Option Held) (before now : ℕ) (error : LoadError) → OneHasNoTree texts error → LeavesCount held before now → ErrorLeaves held before now error
+trees_leave texts held before now (File name error) none same = absurd none
+trees_leave texts held before now (Config error) none same = same
+trees_leave texts held before now (Parse file error) none same = same
+trees_leave texts held before now OutOfMemory none same = tt

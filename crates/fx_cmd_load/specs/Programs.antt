@@ -10,6 +10,7 @@ use Rattle.fx_c_types.specs.ProgramView.{declarations, program_tree}
 use Rattle.fx_cmd_load.specs.declared.parsing.ParsedFile.{ParsedFile}
 use Rattle.fx_cmd_load.specs.declared.error.LoadError.TheVariants as load
 use Rattle.fx_cmd_load.specs.Loading.{IsLoaded, LoadCause}
+use Rattle.fx_cmd_load.specs.Reading.{LeavesCount, FaultLeaves}
 use Rattle.fx_cmd_load.specs.declared.program_error.ProgramError.{ProgramError}
 use Rattle.fx_cmd_load.specs.declared.program_error.ProgramError.TheVariants.{File, Config, Parse, Types, OutOfMemory}
 
@@ -35,6 +36,12 @@ BreaksRule files (File name error) = ⊥
 BreaksRule files (Config error) = ⊥
 BreaksRule files (Parse file error) = ⊥
 BreaksRule files OutOfMemory = Unit {0}
+
+-- nothing but a file that failed changes the count of faults, as far as memory was there to say which
+abbrev pub ProgramLeaves : Option Held → ℕ → ℕ → ProgramError → Type 0
+ProgramLeaves held before now (File name error) = FaultLeaves error held before now
+ProgramLeaves held before now OutOfMemory = Unit {0}
+ProgramLeaves held before now _ = LeavesCount held before now
 
 -- Why there is no program, by the first step that failed: nothing is loaded, for its cause; or files are
 -- loaded, and this is the first rule that they violate. Want of memory is free.

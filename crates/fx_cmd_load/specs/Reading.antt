@@ -1,5 +1,5 @@
 -- What was read under names, and why a file was not read.
-use Rattle.std.specs.Prelude.{◌≡◌, ℕ, ◌≤◌, List, [], ◌∷◌, ◌++◌, length, map, Option, Some, None, MatchOption, IfSome}
+use Rattle.std.specs.Prelude.{◌≡◌, ℕ, ◌≤◌, List, [], ◌∷◌, ◌++◌, length, map, Option, Some, None, MatchOption, IfSome, IsSome}
 use Rattle.fx_base.specs.Faults.{Rose}
 use Rattle.fx_base.specs.Files.{Held, IsLonger}
 use Rattle.fx_base.specs.declared.files.FileError.{FileError}
@@ -20,6 +20,19 @@ source_limit = 1_048_576
 abbrev pub HasContent : Option Held → List ℕ → List ℕ → Type 0
 HasContent held name bytes = IfSome held (λ files. files name ≡ Some bytes)
 
+-- they were read, of a file that is no longer than the limit
+abbrev pub WasRead : ℕ → Option Held → List ℕ → List ℕ → Type 0
+WasRead limit held name bytes = HasContent held name bytes × (length bytes ≤ limit)
+
+-- Where content is told, the count of faults is as it was. So no file that failed was read again.
+abbrev pub LeavesCount : Option Held → ℕ → ℕ → Type 0
+LeavesCount held before now = IsSome held → now ≡ before
+
+-- A refusal leaves the count, unless the files failed.
+abbrev pub FaultLeaves : FileError → Option Held → ℕ → ℕ → Type 0
+FaultLeaves files.Failed held before now = Unit {0}
+FaultLeaves _ held before now = LeavesCount held before now
+
 -- the cause of a file's fault: the count rose, or the content is told and the file is missing or longer than
 -- the limit
 abbrev pub ReadingFault : ℕ → List ℕ → Option Held → ℕ → ℕ → FileError → Type 0
@@ -34,6 +47,12 @@ WasFileError name fault (File n error) = (n ≡ name) × (error ≡ fault) × (f
 WasFileError name fault (Config error) = ⊥
 WasFileError name fault (Parse file error) = ⊥
 WasFileError name fault OutOfMemory = Unit {0}
+
+-- nothing but a file that failed changes the count, as far as memory was there to say which
+abbrev pub ErrorLeaves : Option Held → ℕ → ℕ → LoadError → Type 0
+ErrorLeaves held before now (File name error) = FaultLeaves error held before now
+ErrorLeaves held before now OutOfMemory = Unit {0}
+ErrorLeaves held before now _ = LeavesCount held before now
 
 -- a file of this name was not read, or memory ran out
 abbrev pub WasNotRead : ℕ → List ℕ → Option Held → ℕ → ℕ → LoadError → Type 0

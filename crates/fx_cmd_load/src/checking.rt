@@ -1,12 +1,13 @@
 //! Loading the sources and checking them, in the order of work.
 
-ghost use Rattle.std.specs.Prelude.{◌≡◌, ◌<◌, ◌≤◌, ◌^◌, IfOk, IfErr, length};
+ghost use Rattle.std.specs.Prelude.{◌≡◌, ◌<◌, ◌≤◌, ◌^◌, IfOk, IfErr, MatchResult, length};
 ghost use Rattle.fx_base.specs.Told.{Told};
 ghost use Rattle.fx_base.specs.Files.{SameFiles};
 ghost use Rattle.fx_c_types.specs.Programs.{well_typed};
 ghost use Rattle.fx_c_types.specs.ProgramView.{declarations, program_tree};
 ghost use Rattle.fx_cmd_load.specs.Loading.{IsLoaded, HasFewParts};
-ghost use Rattle.fx_cmd_load.specs.Programs.{sources_of, IsProgramOf, ProgramCause, IsChecked, BreaksRule};
+ghost use Rattle.fx_cmd_load.specs.Reading.{LeavesCount};
+ghost use Rattle.fx_cmd_load.specs.Programs.{sources_of, IsProgramOf, ProgramCause, ProgramLeaves, IsChecked, BreaksRule};
 
 use crate::program_error::{ProgramError, unloaded};
 use crate::{ParsedFile, Sources, load};
@@ -26,9 +27,13 @@ pub struct Program {
 fn loaded<F: Files>(alloc: Global, files: &mut F, name: &str) -> Result<Sources, ProgramError>
     ensures keeps { Told SameFiles (F.held files.old) (F.held files.new) }
     ensures later { F.faults files.old ≤ F.faults files.new }
+    ensures counted { MatchResult result
+        (λ _. LeavesCount (F.held files.old) (F.faults files.old) (F.faults files.new))
+        (ProgramLeaves (F.held files.old) (F.faults files.old) (F.faults files.new)) }
     ensures loaded { IfOk result (λ s. IsLoaded name.now (F.held files.old) s.config s.files) }
     ensures few { IfOk result (λ s. HasFewParts s.config) }
-    ensures cause { IfErr result (ProgramCause name.now (F.held files.old) (F.faults files.old) (F.faults files.new)) }
+    ensures cause { IfErr result (ProgramCause name.now (F.held files.old) (F.faults files.old)
+        (F.faults files.new)) }
 {
     match load(alloc, files, name) {
         Ok(sources) => Ok(sources),
@@ -74,11 +79,16 @@ pub fn load_program<F: Files>(
 ) -> Result<Program, ProgramError>
     ensures keeps { Told SameFiles (F.held files.old) (F.held files.new) }
     ensures later { F.faults files.old ≤ F.faults files.new }
+    ensures counted { MatchResult result
+        (λ _. LeavesCount (F.held files.old) (F.faults files.old) (F.faults files.new))
+        (ProgramLeaves (F.held files.old) (F.faults files.old) (F.faults files.new)) }
     // What is given is what the configuration's text means, and the program of the texts of its files.
-    ensures program { IfOk result (λ x. IsProgramOf name.now (F.held files.old) x.config x.program) }
+    ensures program { IfOk result (λ x.
+        IsProgramOf name.now (F.held files.old) x.config x.program) }
     ensures few { IfOk result (λ x. HasFewParts x.config) }
     // Each refusal has its cause, and what comes before it in the order of work has none.
-    ensures cause { IfErr result (ProgramCause name.now (F.held files.old) (F.faults files.old) (F.faults files.new)) }
+    ensures cause { IfErr result (ProgramCause name.now (F.held files.old) (F.faults files.old)
+        (F.faults files.new)) }
 {
     let Sources {
         config,

@@ -1,8 +1,9 @@
 //! Reading the configuration.
 
-ghost use Rattle.std.specs.Prelude.{◌≡◌, ◌≤◌, IfOk, IfErr};
+ghost use Rattle.std.specs.Prelude.{◌≡◌, ◌≤◌, IfOk, IfErr, MatchResult};
 ghost use Rattle.fx_base.specs.Told.{Told};
 ghost use Rattle.fx_base.specs.Files.{SameFiles};
+ghost use Rattle.fx_cmd_load.specs.Reading.{LeavesCount, ErrorLeaves};
 ghost use Rattle.fx_cmd_load.specs.Loading.{IsConfigured, ConfigurationCause, MeansConfiguration, RefusesConfiguration, HasFewParts};
 
 use crate::error::LoadError;
@@ -34,8 +35,12 @@ pub fn read_configuration<F: Files>(
 ) -> Result<Config, LoadError>
     ensures keeps { Told SameFiles (F.held files.old) (F.held files.new) }
     ensures later { F.faults files.old ≤ F.faults files.new }
+    ensures counted { MatchResult result
+        (λ _. LeavesCount (F.held files.old) (F.faults files.old) (F.faults files.new))
+        (ErrorLeaves (F.held files.old) (F.faults files.old) (F.faults files.new)) }
     ensures configured { IfOk result (IsConfigured name.now (F.held files.old)) }
-    ensures cause { IfErr result (ConfigurationCause name.now (F.held files.old) (F.faults files.old) (F.faults files.new)) }
+    ensures cause { IfErr result (ConfigurationCause name.now (F.held files.old)
+        (F.faults files.old) (F.faults files.new)) }
 {
     let text = read_file(alloc, files, name, CONFIG_LIMIT)?;
     let config = configuration(alloc, &text)?;

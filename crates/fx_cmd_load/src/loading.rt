@@ -1,9 +1,10 @@
 //! The configuration and the sources of a program, read and parsed in the order of work.
 
-ghost use Rattle.std.specs.Prelude.{◌≡◌, ◌≤◌, IfOk, IfErr};
+ghost use Rattle.std.specs.Prelude.{◌≡◌, ◌≤◌, IfOk, IfErr, MatchResult};
 ghost use Rattle.fx_base.specs.Told.{Told};
 ghost use Rattle.fx_base.specs.Files.{SameFiles};
 ghost use Rattle.fx_cmd_load.specs.Named.{from_library};
+ghost use Rattle.fx_cmd_load.specs.Reading.{LeavesCount, ErrorLeaves};
 ghost use Rattle.fx_cmd_load.specs.Loading.{IsLoaded, LoadCause, HasFewParts, SourcesGiven, SourcesCause};
 
 use crate::configured::read_configuration;
@@ -31,8 +32,13 @@ fn load_sources<F: Files>(
     requires { HasFewParts config.now }
     ensures keeps { Told SameFiles (F.held files.old) (F.held files.new) }
     ensures later { F.faults files.old ≤ F.faults files.new }
-    ensures given { IfOk result (λ v. SourcesGiven (F.held files.old) (from_library 0 config.now.libraries) v.items) }
-    ensures cause { IfErr result (SourcesCause (F.held files.old) (F.faults files.old) (F.faults files.new) (from_library 0 config.now.libraries)) }
+    ensures counted { MatchResult result
+        (λ _. LeavesCount (F.held files.old) (F.faults files.old) (F.faults files.new))
+        (ErrorLeaves (F.held files.old) (F.faults files.old) (F.faults files.new)) }
+    ensures given { IfOk result (λ v. SourcesGiven (F.held files.old)
+        (from_library 0 config.now.libraries) v.items) }
+    ensures cause { IfErr result (SourcesCause (F.held files.old) (F.faults files.old)
+        (F.faults files.new) (from_library 0 config.now.libraries)) }
 {
     let names = source_names(alloc, config.libraries.as_slice())?;
     let texts = read_sources(alloc, files, &names)?;
@@ -48,11 +54,15 @@ fn load_sources<F: Files>(
 pub fn load<F: Files>(alloc: Global, files: &mut F, name: &str) -> Result<Sources, LoadError>
     ensures keeps { Told SameFiles (F.held files.old) (F.held files.new) }
     ensures later { F.faults files.old ≤ F.faults files.new }
+    ensures counted { MatchResult result
+        (λ _. LeavesCount (F.held files.old) (F.faults files.old) (F.faults files.new))
+        (ErrorLeaves (F.held files.old) (F.faults files.old) (F.faults files.new)) }
     // What is given is what the configuration's text means, and the trees of the texts of its files.
     ensures loaded { IfOk result (λ s. IsLoaded name.now (F.held files.old) s.config s.files) }
     ensures few { IfOk result (λ s. HasFewParts s.config) }
     // Each refusal has its cause, and what comes before it in the order of work has none.
-    ensures cause { IfErr result (LoadCause name.now (F.held files.old) (F.faults files.old) (F.faults files.new)) }
+    ensures cause { IfErr result (LoadCause name.now (F.held files.old) (F.faults files.old)
+        (F.faults files.new)) }
 {
     let config = read_configuration(alloc, files, name)?;
     let parsed = load_sources(alloc, files, &config)?;

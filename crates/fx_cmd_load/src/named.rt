@@ -19,7 +19,8 @@ fn push_files<'a>(
     library: u8,
     files: &'a [FileName],
 ) -> Result<(), AllocError>
-    ensures { OnOk result (source_files all.new.items ≡ source_files all.old.items ++ in_library library files.now) }
+    ensures { OnOk result (source_files all.new.items ≡ source_files all.old.items ++ in_library
+        library files.now) }
 {
     for name in files {
         all.push(SourceName { library, name })?;

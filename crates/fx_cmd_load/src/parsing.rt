@@ -49,7 +49,8 @@ pub fn parse_sources(
     requires few { length texts.now < 2 ^ 32 }
     requires same { length names.now ≡ length texts.now }
     requires short { All (λ (t : Text). length t.bytes.items ≤ 1048576) texts.now }
-    ensures parsed { IfOk result (λ v. AreParsed (source_files names.now) (texts_of texts.now) v.items) }
+    ensures parsed { IfOk result (λ v. AreParsed (source_files names.now) (texts_of texts.now)
+        v.items) }
     ensures cause { IfErr result (OneHasNoTree (texts_of texts.now)) }
 {
     let mut all = Vec::new(alloc);

@@ -1,10 +1,10 @@
 //! Reading files, with the cause of each refusal.
 
-ghost use Rattle.std.specs.Prelude.{◌≡◌, ◌≤◌, OnOk, IfOk, IfErr, length};
+ghost use Rattle.std.specs.Prelude.{◌≡◌, ◌≤◌, OnOk, IfOk, IfErr, MatchResult, length};
 ghost use Rattle.fx_base.specs.Told.{Told};
 ghost use Rattle.fx_base.specs.Files.{SameFiles};
 ghost use Rattle.fx_cmd_load.specs.Named.{source_file, source_files};
-ghost use Rattle.fx_cmd_load.specs.Reading.{HasContent, WasFileError, WasNotRead, texts_of, AreRead, OneWasNotRead, source_limit};
+ghost use Rattle.fx_cmd_load.specs.Reading.{HasContent, WasFileError, WasNotRead, LeavesCount, ErrorLeaves, texts_of, AreRead, OneWasNotRead, source_limit};
 
 use crate::error::LoadError;
 use crate::named::SourceName;
@@ -49,9 +49,13 @@ pub fn read_file<F: Files>(
 ) -> Result<Vec<u8>, LoadError>
     ensures keeps { Told SameFiles (F.held files.old) (F.held files.new) }
     ensures later { F.faults files.old ≤ F.faults files.new }
+    ensures counted { MatchResult result
+        (λ _. LeavesCount (F.held files.old) (F.faults files.old) (F.faults files.new))
+        (ErrorLeaves (F.held files.old) (F.faults files.old) (F.faults files.new)) }
     ensures within { IfOk result (λ v. length v.items ≤ limit) }
     ensures content { IfOk result (λ v. HasContent (F.held files.old) name.now v.items) }
-    ensures cause { IfErr result (WasNotRead limit name.now (F.held files.old) (F.faults files.old) (F.faults files.new)) }
+    ensures cause { IfErr result (WasNotRead limit name.now (F.held files.old) (F.faults files.old)
+        (F.faults files.new)) }
 {
     match files.read(alloc, name, limit) {
         Ok(bytes) => Ok(bytes),
@@ -67,8 +71,13 @@ pub fn read_sources<F: Files>(
 ) -> Result<Vec<SourceText>, LoadError>
     ensures keeps { Told SameFiles (F.held files.old) (F.held files.new) }
     ensures later { F.faults files.old ≤ F.faults files.new }
-    ensures read { IfOk result (λ v. AreRead (F.held files.old) (source_files names.now) (texts_of v.items)) }
-    ensures cause { IfErr result (OneWasNotRead (F.held files.old) (F.faults files.old) (F.faults files.new) (source_files names.now)) }
+    ensures counted { MatchResult result
+        (λ _. LeavesCount (F.held files.old) (F.faults files.old) (F.faults files.new))
+        (ErrorLeaves (F.held files.old) (F.faults files.old) (F.faults files.new)) }
+    ensures read { IfOk result (λ v. AreRead (F.held files.old) (source_files names.now)
+        (texts_of v.items)) }
+    ensures cause { IfErr result (OneWasNotRead (F.held files.old) (F.faults files.old)
+        (F.faults files.new) (source_files names.now)) }
 {
     let mut texts = Vec::new(alloc);
     for source in names {

@@ -2,5 +2,4 @@ pub mod Strings
 pub mod Ready
 pub mod Ways
 pub mod Granted
-pub mod Hex
 pub mod Steps

@@ -4,7 +4,9 @@ use Rattle.fx_base.specs.Told.{Told}
 use Rattle.fx_base.specs.Files.{Held}
 use Rattle.fx_config.specs.declared.configuration.Config.{Config}
 use Rattle.fx_c_ast.specs.declared.checked.TProgram.{TProgram}
-use Rattle.fx_cmd_place.specs.Placing.{TookNothing}
+use Rattle.fx_cmd_base.specs.Streams.{TookNothing}
+use Rattle.fx_cmd_base.specs.Ends.{ErrorStream, Ended}
+use Rattle.fx_cmd_base.specs.ProgramWords.{program_status}
 use Rattle.fx_cmd_place.specs.declared.placing.Unplaced.{Unplaced}
 use Rattle.fx_cmd_place.specs.declared.placing.Unplaced.TheVariants as unplaced
 use Rattle.fx_cmd_load.specs.declared.program_error.ProgramError.{ProgramError}
@@ -12,9 +14,9 @@ use Rattle.fx_cmd_load.specs.declared.program_error.ProgramError.TheVariants as 
 use Rattle.fx_cmd_load.specs.Programs.{IsProgramOf}
 use Rattle.fx_cmd_place.specs.declared.failure.PlaceFailure.{PlaceFailure}
 use Rattle.fx_cmd_place.specs.declared.failure.PlaceFailure.TheVariants.{Program, Placing}
-use Rattle.fx_cmd_place.specs.Failures.{program_status, placing_status, failure_status}
+use Rattle.fx_cmd_place.specs.Failures.{placing_status, failure_status}
 use Rattle.fx_cmd_place.specs.Comes.{IsUnloaded, IsUnput, FailureCause, PlacesProgram, Comes}
-use Rattle.fx_cmd_place.specs.Reports.{Ended, Reports}
+use Rattle.fx_cmd_place.specs.Reports.{Reports}
 
 told_same : (taken : Option (List ℕ)) → Told TookNothing taken taken
 told_same None = tt
@@ -46,13 +48,13 @@ failure_some : (failure : PlaceFailure) → 0 < failure_status failure
 failure_some (Program error) = program_some error
 failure_some (Placing error) = placing_some error
 
-not_ended : (status : ℕ) (line : List ℕ) (result : ℕ) (told printed : Option (List ℕ)) (quiet loud : ℕ) → 0 < status → Ended status line result told printed quiet loud → result ≡ 0 → ⊥
-not_ended status line result told printed quiet loud some (inl own) none = omega (arith, own.0)
-not_ended status line result told printed quiet loud some (inr fault) none = omega (arith, fault.0)
+not_ended : (status : ℕ) (line : List ℕ) (result : ℕ) (err : ErrorStream) → 0 < status → Ended status line result err → result ≡ 0 → ⊥
+not_ended status line result err some (inl own) none = omega (arith, own.0)
+not_ended status line result err some (inr fault) none = omega (arith, fault.0)
 
 -- only a placement that was put has status 0
-pub done : (name : List ℕ) (held : Option Held) (before now : ℕ) (taken gained : Option (List ℕ)) (fine failed : ℕ) (came : Result (Unit {0}) PlaceFailure) (result : ℕ) (told printed : Option (List ℕ)) (quiet loud : ℕ)
-    → Comes name held before now taken gained fine failed came → Reports came result told printed quiet loud → result ≡ 0 → PlacesProgram name held taken gained × Told TookNothing told printed
-done name held before now taken gained fine failed (Ok x) result told printed quiet loud comes reports none = (comes, reports.1)
-done name held before now taken gained fine failed (Err failure) result told printed quiet loud comes (inl own) none = absurd (not_ended (failure_status failure) _ result told printed quiet loud (failure_some failure) own none)
-done name held before now taken gained fine failed (Err failure) result told printed quiet loud comes (inr memory) none = absurd (not_ended 6 _ result told printed quiet loud (omega arith) memory none)
+pub done : (name : List ℕ) (held : Option Held) (before now : ℕ) (taken gained : Option (List ℕ)) (fine failed : ℕ) (came : Result (Unit {0}) PlaceFailure) (result : ℕ) (err : ErrorStream)
+    → Comes name held before now taken gained fine failed came → Reports came result err → result ≡ 0 → PlacesProgram name held taken gained × Told TookNothing err.told err.printed
+done name held before now taken gained fine failed (Ok x) result err comes reports none = (comes, reports.1)
+done name held before now taken gained fine failed (Err failure) result err comes (inl own) none = absurd (not_ended (failure_status failure) _ result err (failure_some failure) own none)
+done name held before now taken gained fine failed (Err failure) result err comes (inr memory) none = absurd (not_ended 6 _ result err (omega arith) memory none)

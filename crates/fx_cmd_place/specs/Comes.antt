@@ -4,8 +4,10 @@ use Rattle.fx_base.specs.Told.{Told}
 use Rattle.fx_base.specs.Files.{Held}
 use Rattle.fx_config.specs.declared.configuration.Config.{Config}
 use Rattle.fx_c_ast.specs.declared.checked.TProgram.{TProgram}
-use Rattle.fx_cmd_place.specs.Placing.{TookNothing, WasPut, PlacingCause}
-use Rattle.fx_cmd_load.specs.Programs.{IsProgramOf, ProgramCause}
+use Rattle.fx_cmd_base.specs.Streams.{TookNothing}
+use Rattle.fx_cmd_load.specs.Reading.{LeavesCount}
+use Rattle.fx_cmd_load.specs.Programs.{IsProgramOf, ProgramCause, ProgramLeaves}
+use Rattle.fx_cmd_place.specs.Placing.{WasPut, PlacingCause}
 use Rattle.fx_cmd_place.specs.declared.failure.PlaceFailure.{PlaceFailure}
 use Rattle.fx_cmd_place.specs.declared.failure.PlaceFailure.TheVariants.{Program, Placing}
 
@@ -23,6 +25,15 @@ FailureCause name held before now taken gained fine failed (Placing error) = (k 
 abbrev pub Comes : List ℕ → Option Held → ℕ → ℕ → Option (List ℕ) → Option (List ℕ) → ℕ → ℕ → Result (Unit {0}) PlaceFailure → Type 0
 Comes name held before now taken gained fine failed (Ok x) = PlacesProgram name held taken gained
 Comes name held before now taken gained fine failed (Err failure) = FailureCause name held before now taken gained fine failed failure
+
+-- nothing but a file that failed changes the files' count of faults
+abbrev pub FailureLeaves : Option Held → ℕ → ℕ → PlaceFailure → Type 0
+FailureLeaves held before now (Program error) = ProgramLeaves held before now error
+FailureLeaves held before now (Placing error) = LeavesCount held before now
+
+abbrev pub CameLeaves : Option Held → ℕ → ℕ → Result (Unit {0}) PlaceFailure → Type 0
+CameLeaves held before now (Ok x) = LeavesCount held before now
+CameLeaves held before now (Err failure) = FailureLeaves held before now failure
 
 -- there is no checked program, for its cause
 abbrev pub IsUnloaded : List ℕ → Option Held → ℕ → ℕ → PlaceFailure → Type 0

@@ -1,19 +1,11 @@
 -- The status and the line of a placement that was not put.
 use Rattle.std.specs.Prelude.{ℕ, List, codes}
-use Rattle.fx_cmd_base.specs.RefusalWords.{config_refusal, file_fault, grants_refusal, parse_refusal, place_refusal, types_refusal}
+use Rattle.fx_cmd_base.specs.ProgramWords.{program_status, program_words}
+use Rattle.fx_cmd_base.specs.RefusalWords.{grants_refusal, place_refusal}
 use Rattle.fx_cmd_place.specs.declared.placing.Unplaced.{Unplaced}
 use Rattle.fx_cmd_place.specs.declared.placing.Unplaced.TheVariants as unplaced
-use Rattle.fx_cmd_load.specs.declared.program_error.ProgramError.{ProgramError}
-use Rattle.fx_cmd_load.specs.declared.program_error.ProgramError.TheVariants as program
 use Rattle.fx_cmd_place.specs.declared.failure.PlaceFailure.{PlaceFailure}
 use Rattle.fx_cmd_place.specs.declared.failure.PlaceFailure.TheVariants.{Program, Placing}
-
-abbrev pub program_status : ProgramError → ℕ
-program_status (program.File name error) = 4
-program_status (program.Config error) = 3
-program_status (program.Parse file error) = 3
-program_status (program.Types kind declaration) = 3
-program_status program.OutOfMemory = 6
 
 abbrev pub placing_status : Unplaced → ℕ
 placing_status (unplaced.Grants error) = 3
@@ -24,13 +16,6 @@ placing_status unplaced.OutOfMemory = 6
 abbrev pub failure_status : PlaceFailure → ℕ
 failure_status (Program error) = program_status error
 failure_status (Placing error) = placing_status error
-
-abbrev pub program_words : ProgramError → List ℕ
-program_words (program.File name error) = file_fault name error
-program_words (program.Config error) = config_refusal error
-program_words (program.Parse file error) = parse_refusal file error
-program_words (program.Types kind declaration) = types_refusal kind declaration
-program_words program.OutOfMemory = codes "out of memory"
 
 abbrev pub placing_words : Unplaced → List ℕ
 placing_words (unplaced.Grants error) = grants_refusal error

@@ -11,6 +11,7 @@ use Rattle.fx_grants.specs.declared.grants.Grants.{Grants}
 use Rattle.fx_grants.specs.Refusals.{resolved}
 use Rattle.fx_sections.specs.declared.placement.Placement.{Placement}
 use Rattle.fx_sections.specs.Placement.{literal_sizes, initial_total, placed}
+use Rattle.fx_cmd_base.specs.Streams.{Gained, TookNothing}
 use Rattle.fx_cmd_place.specs.Table.{table_of}
 use Rattle.fx_cmd_place.specs.declared.placing.Unplaced.{Unplaced}
 use Rattle.fx_cmd_place.specs.declared.placing.Unplaced.TheVariants as unplaced
@@ -26,15 +27,9 @@ pub record IsReady (p : TProgram) (k : Config) : Type 0 where
   pub objects : length p.globals + length p.literals < 2 ^ 31
   pub texts : sum (literal_sizes p) + initial_total (struct_types p.structs) p.globals < 2 ^ 62
 
--- an output that took these bytes, or the first of them, or nothing
-abbrev pub Gained : List ℕ → List ℕ → List ℕ → Type 0
-Gained bytes before now = now ≡ before ++ bytes
-
+-- an output that took the first of these bytes
 abbrev pub GainedFront : List ℕ → List ℕ → List ℕ → Type 0
 GainedFront bytes before now = (n : ℕ) × (now ≡ before ++ take n bytes)
-
-abbrev pub TookNothing : List ℕ → List ℕ → Type 0
-TookNothing before now = now ≡ before
 
 -- the program is granted and placed, and this is the placement's table
 abbrev pub HasTable : TProgram → Config → List ℕ → Type 0

@@ -1,7 +1,8 @@
 -- The table of a placement: a line for each object of the image, in order of address. The lines' form
 -- is this project's own.
-use Rattle.std.specs.Prelude.{ℕ, zero, suc, ◌+◌, ◌*◌, ◌/◌, ◌%◌, ◌==◌, nat_lt, Bool, List, [], ◌∷◌, ◌++◌, codes, slice_get, length, map, Option, Some, None, if◌then◌else◌}
+use Rattle.std.specs.Prelude.{ℕ, ◌+◌, ◌*◌, ◌==◌, Bool, List, [], ◌∷◌, ◌++◌, codes, slice_get, length, map, Option, Some, None, if◌then◌else◌}
 use Rattle.std.specs.Fmt.{decimal}
+use Rattle.fx_cmd_base.specs.Hex.{hex}
 use Rattle.fx_config.specs.declared.configuration.Config.{Config}
 use Rattle.fx_config.specs.declared.configuration.Compartment.{Compartment}
 use Rattle.fx_c_ast.specs.declared.checked.TGlobal.{TGlobal}
@@ -13,25 +14,12 @@ use Rattle.fx_sections.specs.declared.placement.Placement.{Placement}
 use Rattle.fx_sections.specs.Pairs.{section_of}
 use Rattle.fx_sections.specs.Placement.{global_size, program_pairs}
 
--- a hexadecimal digit in lower case
-abbrev pub hex_digit : ℕ → ℕ
-hex_digit n = if nat_lt n 10 then 48 + n else 87 + n
-
--- the last digits of a number in hexadecimal, so many
-abbrev pub hex_digits : ℕ → ℕ → List ℕ
-hex_digits zero n = []
-hex_digits (suc count) n = hex_digits count (n / 16) ++ hex_digit (n % 16) ∷ []
-
--- an address in 16 hexadecimal digits
-unfoldable pub address_text : ℕ → List ℕ
-address_text address = hex_digits 16 address
-
 -- the address in 16 hexadecimal digits, the key, the size and the name, parted by spaces
 abbrev pub numbers_text : (key size : ℕ) → List ℕ
 numbers_text key size = codes " " ++ (decimal key ++ (codes " " ++ (decimal size ++ codes " ")))
 
 abbrev pub line : (address key size : ℕ) → (name : List ℕ) → List ℕ
-line address key size name = address_text address ++ numbers_text key size ++ name ++ 10 ∷ []
+line address key size name = hex address ++ numbers_text key size ++ name ++ 10 ∷ []
 
 -- the runtime's object begins the private section of a compartment
 abbrev pub runtime_line : PlacedSection → Option Compartment → List ℕ

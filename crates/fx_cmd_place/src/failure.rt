@@ -1,12 +1,10 @@
 //! Why a program's placement was not put, with the status and the line of that.
 
 ghost use Rattle.std.specs.Prelude.{◌≡◌, ◌++◌, ◌∷◌, [], IfOk, string_bytes};
-ghost use Rattle.fx_cmd_place.specs.Failures.{program_status, placing_status, failure_status, program_words, placing_words, failure_words};
+ghost use Rattle.fx_cmd_place.specs.Failures.{placing_status, failure_status, placing_words, failure_words};
 
 use crate::Unplaced;
-use fx_cmd_base::{
-    config_refusal, file_fault, grants_refusal, parse_refusal, place_refusal, types_refusal,
-};
+use fx_cmd_base::{grants_refusal, place_refusal, program_status, program_words};
 use fx_cmd_load::ProgramError;
 use std::alloc::{AllocError, Global};
 
@@ -19,16 +17,6 @@ pub enum PlaceFailure {
     Placing(Unplaced),
 }
 
-fn program_status(error: &ProgramError) -> u8
-    ensures { result ≡ program_status error.now }
-{
-    match error {
-        ProgramError::File { .. } => 4,
-        ProgramError::Config(_) | ProgramError::Parse { .. } | ProgramError::Types { .. } => 3,
-        ProgramError::OutOfMemory => 6,
-    }
-}
-
 fn placing_status(error: Unplaced) -> u8
     ensures { result ≡ placing_status error }
 {
@@ -36,18 +24,6 @@ fn placing_status(error: Unplaced) -> u8
         Unplaced::Grants(_) | Unplaced::Place(_) => 3,
         Unplaced::WriteFault => 5,
         Unplaced::OutOfMemory => 6,
-    }
-}
-
-fn program_words(alloc: Global, error: &ProgramError) -> Result<String, AllocError>
-    ensures { IfOk result (λ s. string_bytes s ≡ program_words error.now) }
-{
-    match error {
-        ProgramError::File { name, error } => file_fault(alloc, name.as_str(), *error),
-        ProgramError::Config(error) => config_refusal(alloc, *error),
-        ProgramError::Parse { file, error } => parse_refusal(alloc, *file, *error),
-        ProgramError::Types { kind, declaration } => types_refusal(alloc, *kind, *declaration),
-        ProgramError::OutOfMemory => String::from_str(alloc, "out of memory"),
     }
 }
 

@@ -86,7 +86,8 @@ pub fn put_placement<O: Sink>(
     // The output gained exactly the lines of the placement.
     ensures put { OnOk result (WasPut p.now c.now (O.taken out.old) (O.taken out.new)) }
     // Each refusal has its cause, and a refused program puts nothing.
-    ensures cause { IfErr result (PlacingCause p.now c.now (O.taken out.old) (O.taken out.new) (O.faults out.old) (O.faults out.new)) }
+    ensures cause { IfErr result (PlacingCause p.now c.now (O.taken out.old) (O.taken out.new)
+        (O.faults out.old) (O.faults out.new)) }
     ensures later { O.faults out.old ≤ O.faults out.new }
 {
     let text = table(alloc, p, c)?;

@@ -23,7 +23,8 @@ fn put_runtime(
     compartments: &[Compartment],
     number: usize,
 ) -> Result<(), AllocError>
-    ensures { OnOk result (out.new.items ≡ out.old.items ++ runtime_line section.now (slice_get compartments.now number)) }
+    ensures { OnOk result (out.new.items ≡ out.old.items ++ runtime_line section.now
+        (slice_get compartments.now number)) }
 {
     match compartments.get(number) {
         Some(c) => {
@@ -53,8 +54,10 @@ fn put_global(
     global: &TGlobal,
 ) -> Result<(), AllocError>
     requires structs { StructsAreSized (struct_types p.now.structs) }
-    requires sized { IsSized (known_layouts (struct_types p.now.structs)) (length p.now.structs) (ty_tree global.now.ty) }
-    ensures { OnOk result (out.new.items ≡ out.old.items ++ global_line (struct_types p.now.structs) belongs key address global.now) }
+    requires sized { IsSized (known_layouts (struct_types p.now.structs)) (length p.now.structs)
+        (ty_tree global.now.ty) }
+    ensures { OnOk result (out.new.items ≡ out.old.items ++ global_line (struct_types p.now.structs)
+        belongs key address global.now) }
 {
     if belongs {
         let size = size_of(p, &global.ty);
@@ -75,10 +78,12 @@ fn put_globals(
     addresses: &[u64],
 ) -> Result<(), AllocError>
     requires structs { StructsAreSized (struct_types p.now.structs) }
-    requires globals { All (λ (v : Declared). IsSized (known_layouts (struct_types p.now.structs)) (length p.now.structs) (ty_tree v.ty)) p.now.globals }
+    requires globals { All (λ (v : Declared). IsSized (known_layouts (struct_types p.now.structs))
+        (length p.now.structs) (ty_tree v.ty)) p.now.globals }
     requires sections { length sections.now ≡ length p.now.globals }
     requires addresses { length addresses.now ≡ length p.now.globals }
-    ensures { OnOk result (out.new.items ≡ out.old.items ++ global_lines (struct_types p.now.structs) number key p.now.globals sections.now addresses.now) }
+    ensures { OnOk result (out.new.items ≡ out.old.items ++ global_lines
+        (struct_types p.now.structs) number key p.now.globals sections.now addresses.now) }
 {
     for (i, global) in p.globals.as_slice().iter().enumerate() {
         let belongs = sections[i] == number;

@@ -1,43 +1,26 @@
 -- What was read and run, seen from an earlier moment.
 use Rattle.std.proofs.Common.{◌≡◌, ℕ, ◌≤◌, List, Option, Some, None, Result, Ok, Err, arith, sym, refl, ◌∙◌, subst}
-use Rattle.fx_base.specs.Faults.{Rose}
 use Rattle.fx_base.specs.Told.{Told}
-use Rattle.fx_base.specs.Files.{Held, SameFiles, IsLonger}
-use Rattle.fx_base.specs.declared.files.FileError.{FileError}
-use Rattle.fx_base.specs.declared.files.FileError.TheVariants as errors
+use Rattle.fx_base.specs.Files.{Held, SameFiles}
 use Rattle.fx_device.specs.Rules.{Meaning}
 use Rattle.fx_image.specs.declared.forms.Image.{Image}
 use Rattle.fx_cmd_run.specs.declared.verdict.Verdict.{Verdict}
 use Rattle.fx_cmd_base.specs.Words.{Given, RunGiven}
-use Rattle.fx_cmd_run.specs.Causes.{file_limit, ReadingFault, HasContent, HasImage, ImageCause, HasSchedule, ScheduleCause, WhyUnbegun}
-use Rattle.fx_cmd_run.specs.Comes.{Streams, RunsImage, ImageComes, Comes}
+use Rattle.fx_cmd_load.specs.Reading.{LeavesCount}
+use Rattle.fx_cmd_load.proofs.Stages.{was_before, fault_before, counted_twice, fault_leaves}
+use Rattle.fx_cmd_base.specs.Streams.{Streams}
+use Rattle.fx_cmd_run.specs.Causes.{file_limit, HasImage, ImageCause, HasSchedule, ScheduleCause, WhyUnbegun, UnbegunLeaves}
+use Rattle.fx_cmd_run.specs.Comes.{RunsImage, ImageComes, Comes, CameLeaves}
 use Rattle.fx_cmd_run.specs.declared.command.Finished.{Finished}
 use Rattle.fx_cmd_run.specs.declared.load.Unbegun.{Unbegun}
 use Rattle.fx_cmd_run.specs.declared.load.Unbegun.TheVariants.{Unread, Refused, OutOfMemory}
 use Rattle.fx_cmd_run.specs.declared.load.Which.TheVariants as which
 
--- a count that rose from a later moment rose from an earlier one
-rose_before : (before middle now : ℕ) → before ≤ middle → Rose middle now → Rose before now
-rose_before before middle now later rose = omega arith
-
--- a file's fault is one of what was held before, too
-fault_before : (name : List ℕ) (held mid : Option Held) (before middle now : ℕ) (error : FileError) → before ≤ middle → Told SameFiles held mid → ReadingFault name mid middle now error → ReadingFault name held before now error
-fault_before name held mid before middle now errors.Failed later same fault = rose_before before middle now later fault
-fault_before name None None before middle now errors.Missing later same fault = rose_before before middle now later fault
-fault_before name None (Some y) before middle now errors.Missing later same fault = absurd same
-fault_before name (Some x) None before middle now errors.Missing later same fault = absurd same
-fault_before name (Some x) (Some y) before middle now errors.Missing later same fault = sym (same name) ∙ fault
-fault_before name None None before middle now errors.TooLong later same fault = rose_before before middle now later fault
-fault_before name None (Some y) before middle now errors.TooLong later same fault = absurd same
-fault_before name (Some x) None before middle now errors.TooLong later same fault = absurd same
-fault_before name (Some x) (Some y) before middle now errors.TooLong later same fault = subst (IsLonger file_limit) (same name) fault
-fault_before name held mid before middle now errors.OutOfMemory later same fault = absurd fault
-
 -- the cause of a schedule that wasn't taken, behind an image that was
 late_by : (given : RunGiven) (schedule : Option (List ℕ)) (held mid : Option Held) (before middle now : ℕ) (image : Image) (why : Unbegun) → given.options.schedule ≡ schedule → before ≤ middle → Told SameFiles held mid
     → HasImage held given.image image → ScheduleCause schedule mid middle now why → WhyUnbegun given held before now why
 late_by given (Some name) held mid before middle now image (Unread which.Schedule error) is later same taken cause =
-    (image, taken, name, is, fault_before name held mid before middle now error later same cause)
+    (image, taken, name, is, fault_before file_limit name held mid before middle now error same later cause)
 late_by given (Some name) held mid before middle now image (Unread which.Image error) is later same taken cause = absurd cause
 late_by given (Some name) held mid before middle now image (Refused error) is later same taken cause = absurd cause
 late_by given (Some name) held mid before middle now image OutOfMemory is later same taken cause = tt
@@ -51,19 +34,12 @@ late given held mid before middle now image why later same taken cause = late_by
 
 -- ---- an image's run
 
--- what stands after nothing changed stood before
-content_before : (a b : Option Held) (name bytes : List ℕ) → Told SameFiles a b → HasContent b name bytes → HasContent a name bytes
-content_before None None name bytes same content = content
-content_before None (Some y) name bytes same content = absurd same
-content_before (Some x) None name bytes same content = absurd same
-content_before (Some x) (Some y) name bytes same content = sym (same name) ∙ content
-
 schedule_before : (name : Option (List ℕ)) (a b : Option Held) (bytes : List ℕ) → Told SameFiles a b → HasSchedule b name bytes → HasSchedule a name bytes
 schedule_before None a b bytes same read = read
-schedule_before (Some name) a b bytes same read = content_before a b name bytes same read
+schedule_before (Some name) a b bytes same read = was_before file_limit a b name bytes same read
 
 cause_before : (schedule : Option (List ℕ)) (held mid : Option Held) (before middle now : ℕ) (why : Unbegun) → before ≤ middle → Told SameFiles held mid → ScheduleCause schedule mid middle now why → ScheduleCause schedule held before now why
-cause_before (Some name) held mid before middle now (Unread which.Schedule error) later same cause = fault_before name held mid before middle now error later same cause
+cause_before (Some name) held mid before middle now (Unread which.Schedule error) later same cause = fault_before file_limit name held mid before middle now error same later cause
 cause_before (Some name) held mid before middle now (Unread which.Image error) later same cause = absurd cause
 cause_before (Some name) held mid before middle now (Refused error) later same cause = absurd cause
 cause_before (Some name) held mid before middle now OutOfMemory later same cause = tt
@@ -92,9 +68,24 @@ pub image_before : (options : Given) (boxes : List (Option Meaning)) (s after : 
 image_before options boxes s after mid middle image (Ok done) later same came = (came.0, ran_before options boxes s after mid middle image done.verdict same came.1)
 image_before options boxes s after mid middle image (Err why) later same came = record {
   why_not = cause_before options.schedule s.held mid s.file_faults middle after.file_faults why later same came.why_not;
-  input = came.input;
-  output = came.output;
+  untouched = record {
+    input = came.untouched.input;
+    input_faults = came.untouched.input_faults;
+    output = came.untouched.output;
+    output_faults = came.untouched.output_faults;
+  };
 }
+
+-- ---- the count of faults
+
+unbegun_leaves : (a b : Option Held) (first before now : ℕ) (why : Unbegun) → Told SameFiles a b → LeavesCount a first before → UnbegunLeaves b before now why → UnbegunLeaves a first now why
+unbegun_leaves a b first before now (Unread file error) same p q = fault_leaves error a b first before now same p q
+unbegun_leaves a b first before now (Refused error) same p q = counted_twice a b first before now same p q
+unbegun_leaves a b first before now OutOfMemory same p q = counted_twice a b first before now same p q
+
+pub came_leaves : (a b : Option Held) (first before now : ℕ) (came : Result Finished Unbegun) → Told SameFiles a b → LeavesCount a first before → CameLeaves b before now came → CameLeaves a first now came
+came_leaves a b first before now (Ok done) same p q = counted_twice a b first before now same p q
+came_leaves a b first before now (Err why) same p q = unbegun_leaves a b first before now why same p q
 
 -- ---- the command `run`
 
@@ -113,6 +104,10 @@ came_late given boxes s after mid middle image (Ok done) later same read came = 
 }
 came_late given boxes s after mid middle image (Err why) later same read came = record {
   why_not = late given s.held mid s.file_faults middle after.file_faults image why later same read came.why_not;
-  input = came.input;
-  output = came.output;
+  untouched = record {
+    input = came.untouched.input;
+    input_faults = came.untouched.input_faults;
+    output = came.untouched.output;
+    output_faults = came.untouched.output_faults;
+  };
 }

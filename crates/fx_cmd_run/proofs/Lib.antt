@@ -1,3 +1,2 @@
 pub mod Late
 pub mod Statuses
-pub mod Hex

@@ -1,8 +1,9 @@
 -- What the status of a run says.
-use Rattle.std.proofs.Common.{◌≡◌, ℕ, List, Option, Result, Ok, Err, inl, inr, sym, ◌∙◌, arith}
+use Rattle.std.proofs.Common.{◌≡◌, ℕ, Result, Ok, Err, inl, inr, sym, ◌∙◌, arith}
 use Rattle.fx_cmd_run.specs.Verdicts.{status_of}
 use Rattle.fx_cmd_run.specs.declared.verdict.Verdict.{Verdict}
 use Rattle.fx_cmd_run.specs.declared.verdict.Verdict.TheVariants.{Exited, Denied, StackFull, Divide, BadThread, ThreadsFull, Invalid, Protection, Aborted, Page, Spent, DeviceFault, ReadFault, WriteFault, OutOfMemory}
+use Rattle.fx_cmd_base.specs.Ends.{ErrorStream}
 use Rattle.fx_cmd_base.specs.Words.{RunGiven}
 use Rattle.fx_cmd_run.specs.Lines.{came_status, unbegun_status}
 use Rattle.fx_cmd_run.specs.Reports.{Reports}
@@ -37,8 +38,8 @@ came_usage : (came : Result Finished Unbegun) → came_status came ≡ 2 → ⊥
 came_usage (Ok done) status = verdict_usage done.verdict status
 came_usage (Err why) status = unbegun_usage why status
 
-pub reports_usage : (given : RunGiven) (came : Result Finished Unbegun) (result : ℕ) (told printed : Option (List ℕ)) (quiet loud : ℕ) → Reports given came result told printed quiet loud → result ≡ 2 → ⊥
-reports_usage given came result told printed quiet loud (inl (inl own)) two = came_usage came (sym own.0 ∙ two)
-reports_usage given came result told printed quiet loud (inl (inr fault)) two = omega (arith, fault.0)
-reports_usage given came result told printed quiet loud (inr (inl memory)) two = omega (arith, memory.0)
-reports_usage given came result told printed quiet loud (inr (inr fault)) two = omega (arith, fault.0)
+pub reports_usage : (given : RunGiven) (came : Result Finished Unbegun) (result : ℕ) (err : ErrorStream) → Reports given came result err → result ≡ 2 → ⊥
+reports_usage given came result err (inl (inl own)) two = came_usage came (sym own.0 ∙ two)
+reports_usage given came result err (inl (inr fault)) two = omega (arith, fault.0)
+reports_usage given came result err (inr (inl memory)) two = omega (arith, memory.0)
+reports_usage given came result err (inr (inr fault)) two = omega (arith, fault.0)

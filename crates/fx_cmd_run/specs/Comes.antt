@@ -9,20 +9,12 @@ use Rattle.fx_machine_model.specs.declared.outcome.Outcome.{Outcome}
 use Rattle.fx_run_core.specs.Ran.{RunsTo, HasCause, Output, Input}
 use Rattle.fx_cmd_run.specs.Verdicts.{verdict_of}
 use Rattle.fx_cmd_run.specs.declared.verdict.Verdict.{Verdict}
+use Rattle.fx_cmd_load.specs.Reading.{LeavesCount}
+use Rattle.fx_cmd_base.specs.Streams.{Streams, Untouched}
 use Rattle.fx_cmd_base.specs.Words.{Given, RunGiven}
-use Rattle.fx_cmd_run.specs.Causes.{HasImage, HasSchedule, ScheduleCause, WhyUnbegun}
+use Rattle.fx_cmd_run.specs.Causes.{HasImage, HasSchedule, ScheduleCause, WhyUnbegun, UnbegunLeaves}
 use Rattle.fx_cmd_run.specs.declared.command.Finished.{Finished}
 use Rattle.fx_cmd_run.specs.declared.load.Unbegun.{Unbegun}
-
--- What a command reads and writes: what the files hold, what the input has left and what the output took,
--- where they tell it, each with its count of faults.
-pub record Streams : Type 0 where
-  pub held : Option Held
-  pub file_faults : ℕ
-  pub left : Option (List ℕ)
-  pub input_faults : ℕ
-  pub taken : Option (List ℕ)
-  pub output_faults : ℕ
 
 -- The turns of a run for which none are given.
 abbrev pub default_budget : ℕ
@@ -48,13 +40,18 @@ pub record RunsImage (options : Given) (boxes : List (Option Meaning)) (before a
 -- No run of the image was begun: why, and that neither input nor output was touched.
 pub record NotRun (options : Given) (before after : Streams) (why : Unbegun) : Type 0 where
   pub why_not : ScheduleCause options.schedule before.held before.file_faults after.file_faults why
-  pub input : after.left ≡ before.left
-  pub output : after.taken ≡ before.taken
+  pub untouched : Untouched before after
 
 -- What an image's run came to.
 abbrev pub ImageComes : Given → List (Option Meaning) → Streams → Streams → Image → Result Finished Unbegun → Type 0
 ImageComes options boxes before after image (Ok done) = (done.image ≡ image) × RunsImage options boxes before after image done.verdict
 ImageComes options boxes before after image (Err why) = NotRun options before after why
+
+-- Nothing but a file that failed changes the files' count of faults: none is read again, and nothing is asked
+-- behind a fault.
+abbrev pub CameLeaves : Option Held → ℕ → ℕ → Result Finished Unbegun → Type 0
+CameLeaves held before now (Ok done) = LeavesCount held before now
+CameLeaves held before now (Err why) = UnbegunLeaves held before now why
 
 -- ---- the command `run`
 
@@ -66,8 +63,7 @@ pub record Ran (given : RunGiven) (boxes : List (Option Meaning)) (before after 
 -- No run was begun: why, and that neither input nor output was touched.
 pub record NotBegun (given : RunGiven) (before after : Streams) (why : Unbegun) : Type 0 where
   pub why_not : WhyUnbegun given before.held before.file_faults after.file_faults why
-  pub input : after.left ≡ before.left
-  pub output : after.taken ≡ before.taken
+  pub untouched : Untouched before after
 
 -- What the command came to.
 abbrev pub Comes : RunGiven → List (Option Meaning) → Streams → Streams → Result Finished Unbegun → Type 0

@@ -1,24 +1,17 @@
 -- The status and the line that the command `run` ends with.
 use Rattle.std.specs.Prelude.{ℕ, List, [], ◌∷◌, ◌++◌, unwrap_or, Result, Ok, Err, codes}
 use Rattle.std.specs.Fmt.{decimal}
-use Rattle.fx_base.specs.declared.files.FileError.{FileError}
-use Rattle.fx_base.specs.declared.files.FileError.TheVariants as errors
 use Rattle.fx_image.specs.declared.error.ImageError.{ImageError}
 use Rattle.fx_image.specs.declared.error.ImageError.TheVariants as faults
 use Rattle.fx_cmd_run.specs.Verdicts.{status_of}
 use Rattle.fx_cmd_run.specs.VerdictLines.{line_of}
+use Rattle.fx_cmd_base.specs.RefusalWords.{file_fault}
 use Rattle.fx_cmd_base.specs.Words.{RunGiven}
 use Rattle.fx_cmd_run.specs.declared.command.Finished.{Finished}
 use Rattle.fx_cmd_run.specs.declared.load.Unbegun.{Unbegun}
 use Rattle.fx_cmd_run.specs.declared.load.Unbegun.TheVariants.{Unread, Refused, OutOfMemory}
 use Rattle.fx_cmd_run.specs.declared.load.Which.{Which}
 use Rattle.fx_cmd_run.specs.declared.load.Which.TheVariants as which
-
-abbrev pub file_words : FileError → List ℕ
-file_words errors.Failed = codes "file fault: "
-file_words errors.Missing = codes "no file: "
-file_words errors.TooLong = codes "file too long: "
-file_words errors.OutOfMemory = codes "file fault: "
 
 -- The name of one of the files that a run reads.
 abbrev pub name_of : RunGiven → Which → List ℕ
@@ -36,7 +29,7 @@ image_words (faults.KeySequence place) = codes "refused: image KeySequence " ++ 
 image_words faults.OutOfMemory = codes "out of memory"
 
 abbrev pub unbegun_words : RunGiven → Unbegun → List ℕ
-unbegun_words given (Unread file error) = file_words error ++ name_of given file
+unbegun_words given (Unread file error) = file_fault (name_of given file) error
 unbegun_words given (Refused error) = image_words error
 unbegun_words given OutOfMemory = codes "out of memory"
 

@@ -1,5 +1,5 @@
 -- The line of a run's end.
-use Rattle.std.specs.Prelude.{ℕ, zero, suc, ◌+◌, ◌/◌, ◌%◌, nat_lt, if◌then◌else◌, List, [], ◌∷◌, ◌++◌, Option, Some, None, slice_get, codes}
+use Rattle.std.specs.Prelude.{ℕ, if◌then◌else◌, List, [], ◌∷◌, ◌++◌, Option, Some, None, slice_get, codes}
 use Rattle.std.specs.Fmt.{decimal, signed_decimal}
 use Rattle.fx_image.specs.Layout.{has_halves}
 use Rattle.fx_image.specs.declared.find.Found.{Found}
@@ -7,6 +7,7 @@ use Rattle.fx_image.specs.declared.find.Found.TheVariants.{Object, Stack, Nothin
 use Rattle.fx_image.specs.declared.forms.Comp.{Comp}
 use Rattle.fx_image.specs.declared.forms.Image.{Image}
 use Rattle.fx_image.specs.declared.forms.Obj.{Obj}
+use Rattle.fx_cmd_base.specs.Hex.{hex}
 use Rattle.fx_cmd_run.specs.declared.verdict.Verdict.{Verdict}
 use Rattle.fx_cmd_run.specs.declared.verdict.Verdict.TheVariants.{Exited, Denied, StackFull, Divide, BadThread, ThreadsFull, Invalid, Protection, Aborted, Page, Spent, DeviceFault, ReadFault, WriteFault, OutOfMemory}
 
@@ -31,17 +32,6 @@ place_words image Nothing = codes "none"
 
 abbrev pub stack_name : Image → ℕ → List ℕ
 stack_name image stack = if has_halves image.mechanism then name_in image stack (decimal stack) else codes "common"
-
--- Sixteen hexadecimal digits in lower case.
-abbrev pub hex_digit : ℕ → ℕ
-hex_digit d = if nat_lt d 10 then 48 + d else 87 + d
-
-abbrev pub hex_digits : ℕ → ℕ → List ℕ
-hex_digits zero n = []
-hex_digits (suc k) n = hex_digits k (n / 16) ++ hex_digit (n % 16) ∷ []
-
-unfoldable pub hex : ℕ → List ℕ
-hex n = hex_digits 16 n
 
 abbrev pub words_of : Image → Verdict → List ℕ
 words_of image (Exited value turns) = codes "exit " ++ (signed_decimal value ++ (codes " in " ++ (decimal turns ++ codes " turns")))

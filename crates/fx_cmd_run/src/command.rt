@@ -5,8 +5,9 @@ ghost use Rattle.fx_base.specs.Told.{Told};
 ghost use Rattle.fx_base.specs.Files.{SameFiles};
 ghost use Rattle.fx_device.specs.Bus.{plugged};
 ghost use Rattle.fx_image.specs.Rules.{IsImage};
+ghost use Rattle.fx_cmd_base.specs.Streams.{Streams};
 ghost use Rattle.fx_cmd_base.specs.Views.{given, run_given};
-ghost use Rattle.fx_cmd_run.specs.Comes.{Comes, ImageComes, budget_of};
+ghost use Rattle.fx_cmd_run.specs.Comes.{Comes, ImageComes, CameLeaves, budget_of};
 
 use crate::load::{Unbegun, take_image, take_schedule};
 use crate::verdict::{Verdict, verdict_of};
@@ -48,10 +49,29 @@ pub fn run_image<F: Files, I: Source, O: Sink>(
     requires whole { IsImage image }
     requires few { length devices.items ≤ 15 }
     ensures keeps { Told SameFiles (F.held files.old) (F.held files.new) }
-    ensures comes { ImageComes (given options.now) (map (option_map (λ d. (⟦<dyn Device as Device>⟧ d.vtable).meaning d.value)) (plugged 15 devices.items))
-        (record { held = F.held files.old; file_faults = F.faults files.old; left = I.left input.old; input_faults = I.faults input.old; taken = O.taken out.old; output_faults = O.faults out.old })
-        (record { held = F.held files.new; file_faults = F.faults files.new; left = I.left input.new; input_faults = I.faults input.new; taken = O.taken out.new; output_faults = O.faults out.new })
-        image result }
+    ensures later { F.faults files.old ≤ F.faults files.new }
+    ensures counted { CameLeaves
+        (F.held files.old) (F.faults files.old) (F.faults files.new) result }
+    ensures comes { let boxes =
+        map (option_map (λ d. (⟦<dyn Device as Device>⟧ d.vtable).meaning d.value))
+        (plugged 15 devices.items) in
+        let before : Streams = record {
+          held = F.held files.old;
+          file_faults = F.faults files.old;
+          left = I.left input.old;
+          input_faults = I.faults input.old;
+          taken = O.taken out.old;
+          output_faults = O.faults out.old;
+        } in
+        let after : Streams = record {
+          held = F.held files.new;
+          file_faults = F.faults files.new;
+          left = I.left input.new;
+          input_faults = I.faults input.new;
+          taken = O.taken out.new;
+          output_faults = O.faults out.new;
+        } in
+        ImageComes (given options.now) boxes before after image result }
 {
     let schedule = take_schedule(alloc, files, options.schedule)?;
     let ended = run(
@@ -80,10 +100,28 @@ pub fn perform<F: Files, I: Source, O: Sink>(
 ) -> Result<Finished, Unbegun>
     requires { length devices.items ≤ 15 }
     ensures keeps { Told SameFiles (F.held files.old) (F.held files.new) }
-    ensures comes { Comes (run_given words.now) (map (option_map (λ d. (⟦<dyn Device as Device>⟧ d.vtable).meaning d.value)) (plugged 15 devices.items))
-        (record { held = F.held files.old; file_faults = F.faults files.old; left = I.left input.old; input_faults = I.faults input.old; taken = O.taken out.old; output_faults = O.faults out.old })
-        (record { held = F.held files.new; file_faults = F.faults files.new; left = I.left input.new; input_faults = I.faults input.new; taken = O.taken out.new; output_faults = O.faults out.new })
-        result }
+    ensures counted { CameLeaves
+        (F.held files.old) (F.faults files.old) (F.faults files.new) result }
+    ensures comes { let boxes =
+        map (option_map (λ d. (⟦<dyn Device as Device>⟧ d.vtable).meaning d.value))
+        (plugged 15 devices.items) in
+        let before : Streams = record {
+          held = F.held files.old;
+          file_faults = F.faults files.old;
+          left = I.left input.old;
+          input_faults = I.faults input.old;
+          taken = O.taken out.old;
+          output_faults = O.faults out.old;
+        } in
+        let after : Streams = record {
+          held = F.held files.new;
+          file_faults = F.faults files.new;
+          left = I.left input.new;
+          input_faults = I.faults input.new;
+          taken = O.taken out.new;
+          output_faults = O.faults out.new;
+        } in
+        Comes (run_given words.now) boxes before after result }
 {
     let image = take_image(alloc, files, words.image)?;
     run_image(alloc, image, &words.options, files, input, out, devices)

@@ -3,11 +3,11 @@
 ghost use Rattle.std.specs.Prelude.{◌≡◌, ◌++◌, ◌∷◌, [], IfOk, codes, string_bytes};
 ghost use Rattle.std.specs.Fmt.{decimal};
 ghost use Rattle.fx_cmd_base.specs.Views.{run_given};
-ghost use Rattle.fx_cmd_run.specs.Lines.{file_words, name_of, image_words, unbegun_words, unbegun_status, came_status, came_line};
+ghost use Rattle.fx_cmd_run.specs.Lines.{name_of, image_words, unbegun_words, unbegun_status, came_status, came_line};
 
 use crate::command::Finished;
 use crate::load::{Unbegun, Which};
-use fx_base::FileError;
+use fx_cmd_base::file_fault;
 use fx_cmd_base::words::RunWords;
 use fx_image::ImageError;
 use std::alloc::{AllocError, Global};
@@ -23,20 +23,6 @@ fn name_of<'a>(words: &RunWords<'a>, which: Which) -> &'a str
             None => "",
         },
     }
-}
-
-/// The words of a file's fault.
-pub fn fault_words(alloc: Global, name: &str, error: FileError) -> Result<String, AllocError>
-    ensures { IfOk result (λ s. string_bytes s ≡ file_words error ++ name.now) }
-{
-    let words = match error {
-        FileError::Failed | FileError::OutOfMemory => "file fault: ",
-        FileError::Missing => "no file: ",
-        FileError::TooLong => "file too long: ",
-    };
-    let mut text = String::from_str(alloc, words)?;
-    text.push_str(name)?;
-    Ok(text)
 }
 
 /// The words of a refused image.
@@ -59,7 +45,7 @@ fn unbegun_words(alloc: Global, words: &RunWords<'_>, why: Unbegun) -> Result<St
     ensures { IfOk result (λ s. string_bytes s ≡ unbegun_words (run_given words.now) why) }
 {
     match why {
-        Unbegun::Unread { which, error } => fault_words(alloc, name_of(words, which), error),
+        Unbegun::Unread { which, error } => file_fault(alloc, name_of(words, which), error),
         Unbegun::Refused(error) => image_words(alloc, error),
         Unbegun::OutOfMemory => String::from_str(alloc, "out of memory"),
     }

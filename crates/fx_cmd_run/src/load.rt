@@ -1,10 +1,11 @@
 //! The files that a run reads: the image and the schedule.
 
-ghost use Rattle.std.specs.Prelude.{ℕ, ◌≤◌, List, Option, IfOk, IfErr, option_map};
+ghost use Rattle.std.specs.Prelude.{◌≤◌, IfOk, IfErr, MatchResult, option_map};
 ghost use Rattle.fx_base.specs.Told.{Told};
 ghost use Rattle.fx_base.specs.Files.{SameFiles};
 ghost use Rattle.fx_image.specs.ImageBytes.{ImageBytes};
-ghost use Rattle.fx_cmd_run.specs.Causes.{HasImage, ImageCause, HasSchedule, ScheduleCause, IsRefused};
+ghost use Rattle.fx_cmd_load.specs.Reading.{LeavesCount};
+ghost use Rattle.fx_cmd_run.specs.Causes.{HasImage, ImageCause, HasSchedule, ScheduleCause, UnbegunLeaves, IsRefused};
 
 use fx_base::{FileError, Files};
 use fx_image::{Image, ImageError, read};
@@ -47,7 +48,11 @@ pub fn take_image<F: Files>(alloc: Global, files: &mut F, name: &str) -> Result<
     ensures keeps { Told SameFiles (F.held files.old) (F.held files.new) }
     ensures later { F.faults files.old ≤ F.faults files.new }
     ensures image { IfOk result (HasImage (F.held files.old) name.now) }
-    ensures cause { IfErr result (ImageCause name.now (F.held files.old) (F.faults files.old) (F.faults files.new)) }
+    ensures counted { MatchResult result (λ _. LeavesCount (F.held files.old) (F.faults files.old)
+        (F.faults files.new))
+        (UnbegunLeaves (F.held files.old) (F.faults files.old) (F.faults files.new)) }
+    ensures cause { IfErr result (ImageCause name.now (F.held files.old) (F.faults files.old)
+        (F.faults files.new)) }
 {
     match files.read(alloc, name, FILE_LIMIT) {
         Ok(bytes) => image_of(alloc, &bytes),
@@ -67,8 +72,14 @@ pub fn take_schedule<F: Files>(
 ) -> Result<Vec<u8>, Unbegun>
     ensures keeps { Told SameFiles (F.held files.old) (F.held files.new) }
     ensures later { F.faults files.old ≤ F.faults files.new }
-    ensures schedule { IfOk result (λ v. HasSchedule (F.held files.old) (option_map (λ word. word.now) name.entry) v.items) }
-    ensures cause { IfErr result (ScheduleCause (option_map (λ word. word.now) name.entry) (F.held files.old) (F.faults files.old) (F.faults files.new)) }
+    ensures counted { MatchResult result (λ _. LeavesCount (F.held files.old) (F.faults files.old)
+        (F.faults files.new))
+        (UnbegunLeaves (F.held files.old) (F.faults files.old) (F.faults files.new)) }
+    ensures schedule { let named = option_map (λ word. word.now) name.entry in
+        IfOk result (λ v. HasSchedule (F.held files.old) named v.items) }
+    ensures cause { let named = option_map (λ word. word.now) name.entry in
+        IfErr result (ScheduleCause named (F.held files.old) (F.faults files.old)
+        (F.faults files.new)) }
 {
     let name = match name {
         Some(name) => name,

@@ -1,50 +1,20 @@
 //! The line on the error stream, and the status.
 
-ghost use Rattle.std.specs.Prelude.{◌≡◌, ◌≤◌, ℕ, codes, length, map, option_map};
-ghost use Rattle.fx_base.specs.Told.{Told};
-ghost use Rattle.fx_base.specs.Files.{SameFiles};
+ghost use Rattle.std.specs.Prelude.{◌≤◌, length, map, option_map};
 ghost use Rattle.fx_device.specs.Bus.{plugged};
+ghost use Rattle.fx_cmd_base.specs.Ends.{ErrorStream};
+ghost use Rattle.fx_cmd_base.specs.Streams.{Streams};
 ghost use Rattle.fx_cmd_base.specs.Views.{run_given};
-ghost use Rattle.fx_cmd_run.specs.Reports.{Ended, Reports, Does};
+ghost use Rattle.fx_cmd_run.specs.Reports.{Reports, Does};
 
 use crate::command::{Finished, perform};
 use crate::line::{line, status};
 use crate::load::Unbegun;
-use fx_base::{Files, Sink, Source, put_all};
+use fx_base::{Files, Sink, Source};
 use fx_cmd_base::words::RunWords;
+use fx_cmd_base::{conclude, report_out_of_memory};
 use fx_device::Device;
 use std::alloc::Global;
-
-/// The status of a write fault, and its line.
-const WRITE_FAULT: u8 = 5;
-
-const WRITE_FAULT_LINE: &str = "write fault\n";
-
-/// The status of want of memory, and its line.
-const OUT_OF_MEMORY: u8 = 6;
-
-const OUT_OF_MEMORY_LINE: &str = "out of memory\n";
-
-/// Puts the line, and answers the status. Where the line can't be put, it is a write fault, whose own line is
-/// tried once.
-pub fn conclude<E: Sink>(err: &mut E, status: u8, line: &[u8]) -> u8
-    ensures { Ended status line.now result (E.taken err.old) (E.taken err.new) (E.faults err.old) (E.faults err.new) }
-{
-    if put_all(err, line).is_ok() {
-        return status;
-    }
-    if status != WRITE_FAULT {
-        let _ = put_all(err, WRITE_FAULT_LINE.as_bytes());
-    }
-    WRITE_FAULT
-}
-
-/// Puts the line of want of memory, and answers the status.
-pub fn report_out_of_memory<E: Sink>(err: &mut E) -> u8
-    ensures { Ended 6 (codes "out of memory\n") result (E.taken err.old) (E.taken err.new) (E.faults err.old) (E.faults err.new) }
-{
-    conclude(err, OUT_OF_MEMORY, OUT_OF_MEMORY_LINE.as_bytes())
-}
 
 /// Puts the line of what a run came to, and answers its status.
 pub fn report<E: Sink>(
@@ -53,7 +23,13 @@ pub fn report<E: Sink>(
     words: &RunWords<'_>,
     came: &Result<Finished, Unbegun>,
 ) -> u8
-    ensures { Reports (run_given words.now) came.now result (E.taken err.old) (E.taken err.new) (E.faults err.old) (E.faults err.new) }
+    ensures { let stream : ErrorStream = record {
+      told = E.taken err.old;
+      printed = E.taken err.new;
+      quiet = E.faults err.old;
+      loud = E.faults err.new;
+    } in
+        Reports (run_given words.now) came.now result stream }
 {
     match line(alloc, words, came) {
         Ok(text) => conclude(err, status(came), &text),
@@ -76,11 +52,32 @@ pub fn run_command<F: Files, I: Source, O: Sink, E: Sink>(
     devices: Vec<Box<dyn Device>>,
 ) -> u8
     requires { length devices.items ≤ 15 }
-    ensures keeps { Told SameFiles (F.held files.old) (F.held files.new) }
-    ensures does { Does (run_given words.now) (map (option_map (λ d. (⟦<dyn Device as Device>⟧ d.vtable).meaning d.value)) (plugged 15 devices.items))
-        (record { held = F.held files.old; file_faults = F.faults files.old; left = I.left input.old; input_faults = I.faults input.old; taken = O.taken out.old; output_faults = O.faults out.old })
-        (record { held = F.held files.new; file_faults = F.faults files.new; left = I.left input.new; input_faults = I.faults input.new; taken = O.taken out.new; output_faults = O.faults out.new })
-        result (E.taken err.old) (E.taken err.new) (E.faults err.old) (E.faults err.new) }
+    ensures { let boxes =
+        map (option_map (λ d. (⟦<dyn Device as Device>⟧ d.vtable).meaning d.value))
+        (plugged 15 devices.items) in
+        let before : Streams = record {
+          held = F.held files.old;
+          file_faults = F.faults files.old;
+          left = I.left input.old;
+          input_faults = I.faults input.old;
+          taken = O.taken out.old;
+          output_faults = O.faults out.old;
+        } in
+        let after : Streams = record {
+          held = F.held files.new;
+          file_faults = F.faults files.new;
+          left = I.left input.new;
+          input_faults = I.faults input.new;
+          taken = O.taken out.new;
+          output_faults = O.faults out.new;
+        } in
+        let stream : ErrorStream = record {
+          told = E.taken err.old;
+          printed = E.taken err.new;
+          quiet = E.faults err.old;
+          loud = E.faults err.new;
+        } in
+        Does (run_given words.now) boxes before after result stream }
 {
     let came = perform(alloc, words, files, input, out, devices);
     report(alloc, err, words, &came)

@@ -1,10 +1,12 @@
 //! The line of a run's end.
 
-ghost use Rattle.std.specs.Prelude.{◌≡◌, ◌<◌, ◌≤◌, ◌++◌, ◌∷◌, [], ◌^◌, IfOk, OnOk, OnErr, slice_get, string_bytes, codes};
+ghost use Rattle.std.specs.Prelude.{◌≡◌, ◌++◌, ◌∷◌, [], IfOk, OnOk, slice_get, string_bytes, codes};
 ghost use Rattle.std.specs.Fmt.{decimal, signed_decimal};
-ghost use Rattle.fx_cmd_run.specs.VerdictLines.{name_in, place_words, stack_name, hex_digit, hex_digits, hex, words_of, line_of};
+ghost use Rattle.fx_cmd_base.specs.Hex.{hex};
+ghost use Rattle.fx_cmd_run.specs.VerdictLines.{name_in, place_words, stack_name, words_of, line_of};
 
 use crate::verdict::Verdict;
+use fx_cmd_base::put_hex;
 use fx_image::{Found, Image};
 use fx_machine_model::layout::has_halves;
 use std::alloc::{AllocError, Global};
@@ -40,7 +42,8 @@ fn put_name(
     compartment: u64,
     other: &[u8],
 ) -> Result<(), AllocError>
-    ensures { OnOk result (line.new.items ≡ line.old.items ++ name_in image.now compartment other.now) }
+    ensures { OnOk result (line.new.items ≡ line.old.items ++ name_in image.now compartment
+        other.now) }
 {
     match image.compartments.as_slice().get(compartment as usize) {
         Some(comp) => put(line, comp.name.as_slice()),
@@ -97,38 +100,6 @@ fn put_stack(line: &mut Vec<u8>, alloc: Global, image: &Image, stack: u64) -> Re
     }
 }
 
-/// The digit of a number below 16.
-fn hex_digit(digit: u64) -> u8
-    requires { digit < 16 }
-    ensures { result ≡ hex_digit digit }
-{
-    if digit < 10 {
-        b'0' + digit as u8
-    } else {
-        b'a' - 10 + digit as u8
-    }
-}
-
-/// Adds the lowest so many hexadecimal digits.
-fn put_digits(line: &mut Vec<u8>, count: usize, number: u64) -> Result<(), AllocError>
-    ensures { OnOk result (line.new.items ≡ line.old.items ++ hex_digits count number) }
-{
-    if count == 0 {
-        return Ok(());
-    }
-    put_digits(line, count - 1, number / 16)?;
-    line.push(hex_digit(number % 16))?;
-    Ok(())
-}
-
-/// Adds sixteen hexadecimal digits.
-#[tactic(auto, unfolding(crate::specs::VerdictLines::hex))]
-fn put_hex(line: &mut Vec<u8>, number: u64) -> Result<(), AllocError>
-    ensures { OnOk result (line.new.items ≡ line.old.items ++ hex number) }
-{
-    put_digits(line, 16, number)
-}
-
 /// The line of a denied access.
 fn denied_line(
     alloc: Global,
@@ -159,7 +130,9 @@ fn full_line(alloc: Global, image: &Image, thread: u64, stack: u64) -> Result<Ve
 
 /// The line of an end by HLT with 0.
 fn exit_line(alloc: Global, value: i64, turns: u64) -> Result<Vec<u8>, AllocError>
-    ensures { IfOk result (λ v. v.items ≡ codes "exit " ++ (signed_decimal value ++ (codes " in " ++ (decimal turns ++ codes " turns")))) }
+    ensures { IfOk result (λ v. v.items ≡
+        codes "exit " ++ (signed_decimal value ++ (codes " in " ++
+        (decimal turns ++ codes " turns")))) }
 {
     let mut line = Vec::from_slice(alloc, b"exit ")?;
     put_signed(&mut line, alloc, value)?;

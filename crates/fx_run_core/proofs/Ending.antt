@@ -1,6 +1,6 @@
 -- How a run ends, from the moment before its last turn.
-use Rattle.std.proofs.Common.{◌≡◌, ◌≢◌, ℕ, zero, suc, ◌+◌, ◌%◌, ◌≤◌, ◌<◌, inl, inr, List, [], ◌∷◌, ◌++◌, length, take, drop, Option, Some, None, Err, true, refl, ap, sym, ◌∙◌, subst, arith}
-use Rattle.std.specs.Prelude.{◌==◌}
+use Rattle.std.proofs.Common.{◌≡◌, ◌≢◌, ℕ, zero, suc, ◌+◌, ◌%◌, ◌≤◌, ◌<◌, inl, inr, List, [], ◌∷◌, ◌++◌, length, take, drop, Option, Some, None, Err, Bool, true, false, cond, refl, ap, sym, ◌∙◌, subst, arith}
+use Rattle.std.specs.Prelude.{◌==◌, ◌&&◌}
 use Rattle.std.proofs.lemmas.Bool.{cond-true}
 use Rattle.std.proofs.lemmas.Bool.Decides.{nat_tests}
 use Rattle.std.proofs.lemmas.List.{append-nil}
@@ -12,8 +12,9 @@ use Rattle.fx_device.specs.declared.bus_error.BusError.TheVariants as errors
 use Rattle.fx_image.specs.declared.forms.Image.{Image}
 use Rattle.fx_machine_model.specs.Boot.{vcpus}
 use Rattle.fx_machine_model.specs.declared.stop.Stop.{Stop}
-use Rattle.fx_machine.specs.Turns.{Running, next_of, made_of, Asks, AsksInput, console_load}
-use Rattle.fx_run_core.specs.Ran.{named, AllOnes, console_others, plug_of, Part, IsPlugged, stop_of, NextAsks, RunsTo}
+use Rattle.fx_machine.specs.Acting.{answered}
+use Rattle.fx_machine.specs.Turns.{Running, next_of, made_of, taken_by, Asks, AsksInput, GoesOn, console_load}
+use Rattle.fx_run_core.specs.Ran.{named, AllOnes, console_others, plug_of, Part, IsPlugged, stop_of, outputs, NextAsks, PutsLast, HasTurnLeft, RunsTo}
 use Rattle.fx_run_core.specs.Reached.{Reached, Served, ServedOrDue, Devices, DevicesDue}
 use Rattle.fx_run_core.specs.Stepping.{Reaches}
 use Rattle.fx_machine_model.specs.declared.outcome.Outcome as outcomes
@@ -67,8 +68,8 @@ module _ (image : Image) (schedule : List ℕ) (budget : ℕ) (unplug : Option (
   T = m.bus.transcript
 
   -- no turn was made since
-  pub ran_here : (outcome : outcomes.Outcome) (now before : List DeviceOp) (bus : BusState) → now ≡ T → bus.transcript ≡ T → DevicesDue boxes unplug before bus → stop_of outcome ≡ None → n ≤ budget → (outcome ≡ Spent → n ≡ budget) → RunsTo image schedule budget unplug boxes outcome n now
-  ran_here outcome now before bus same there devices none within spent =
+  pub ran_here : (outcome : outcomes.Outcome) (now before : List DeviceOp) (bus : BusState) → now ≡ T → bus.transcript ≡ T → DevicesDue boxes unplug before bus → stop_of outcome ≡ None → n ≤ budget → (outcome ≡ Spent → n ≡ budget) → HasTurnLeft outcome n budget → RunsTo image schedule budget unplug boxes outcome n now
+  ran_here outcome now before bus same there devices none within spent left =
       subst (RunsTo image schedule budget unplug boxes outcome n) (sym same) (record {
         operations = ap (λ (x : Outcome DeviceOp Stop). x.made) (run_ends image schedule m n h);
         stop = ap (λ (x : Outcome DeviceOp Stop). x.finish) (run_ends image schedule m n h) ∙ sym none;
@@ -76,6 +77,7 @@ module _ (image : Image) (schedule : List ℕ) (budget : ℕ) (unplug : Option (
         fed = fed_ends image schedule m n h;
         within = within;
         spent = spent;
+        left = left;
         devices = λ d ne. subst (λ t. Part (box_of d boxes) (plug_of unplug d) (operations_of d t)) there (parts boxes unplug before bus devices d ne);
         console = subst (λ t. AllOnes (console_others t)) there devices.console;
       })
@@ -90,6 +92,7 @@ module _ (image : Image) (schedule : List ℕ) (budget : ℕ) (unplug : Option (
         fed = fed_stops image schedule m n h stop stops;
         within = omega arith;
         spent = λ e. cc;
+        left = tt;
         devices = parts boxes unplug T m.bus (devices_same boxes unplug m.bus devices);
         console = devices.console;
       })
@@ -97,6 +100,41 @@ module _ (image : Image) (schedule : List ℕ) (budget : ℕ) (unplug : Option (
   -- what the next turn asks for
   pub asks_next : (op : DeviceOp) → Asks m (named schedule n % vcpus m.image) op → NextAsks image schedule n T op
   asks_next op asks answer rest = ap made_of (next_is image schedule m n h (answer ∷ rest)) ∙ asks answer rest
+
+  -- the turn made a store to the console
+  is_store : (a b w : Bool) (v byte : ℕ) → cond (a && b && w) (v ∷ []) [] ++ [] ≡ byte ∷ [] → (a ≡ true) × (b ≡ true) × (w ≡ true)
+  is_store true true true v byte e = (refl, refl, refl)
+  is_store true true false v byte e = cc
+  is_store true false w v byte e = cc
+  is_store false b w v byte e = cc
+
+  is_zero : (k : ℕ) → (k == 0) ≡ true → k ≡ 0
+  is_zero k e = grind (arith, nat_tests)
+
+  -- a store is what the turn asks for, whatever is answered
+  asks_store : (k : Running) (op : DeviceOp) → op.write ≡ true → GoesOn m (named schedule n % vcpus m.image) (op ∷ []) k → Asks m (named schedule n % vcpus m.image) op
+  asks_store k op store goes answer rest =
+      let c = named schedule n % vcpus m.image in
+      let none : taken_by (op ∷ []) ≡ [] = ap (λ w. cond w [] (op.value ∷ []) ++ []) store in
+      ap (λ l. made_of (next_of m c (l ++ answer ∷ rest))) (sym none)
+      ∙ ap made_of (goes.moves (answer ∷ rest))
+      ∙ ap (λ w. cond w op (answered op answer) ∷ []) (sym store)
+
+  pub puts_last : (made : List DeviceOp) (k : Running) (byte : ℕ) → GoesOn m (named schedule n % vcpus m.image) made k → outputs made ≡ byte ∷ [] → PutsLast image schedule (n + 1) (T ++ made)
+  puts_last [] k byte goes puts = cc
+  puts_last (op ∷ []) k byte goes puts =
+      let s = is_store (op.device == 0) (op.reg == 0) op.write (op.value % 256) byte puts in
+      record {
+        before = n;
+        earlier = T;
+        last = op;
+        turn = refl;
+        order = refl;
+        asks = asks_next op (asks_store k op s.2 goes);
+        console = (is_zero op.device s.0, is_zero op.reg s.1);
+        store = s.2;
+      }
+  puts_last (op ∷ next ∷ more) k byte goes puts = let one = goes.one in absurd (omega (arith, one))
 
   pub asks_input : AsksInput m (named schedule n % vcpus m.image) → (answer : ℕ) (rest : List ℕ) → made_of (next_of m (named schedule n % vcpus m.image) (answer ∷ rest)) ≡ console_load answer ∷ []
   asks_input asks = asks

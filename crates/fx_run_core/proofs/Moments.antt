@@ -17,7 +17,7 @@ use Rattle.fx_run_core.specs.declared.watch.Watch.{Watch}
 use Rattle.fx_run_core.proofs.Reaching.{reached_first, reached_next, next_is}
 use Rattle.fx_run_core.proofs.Serving.{devices_same}
 use Rattle.fx_run_core.proofs.Telling.{told_same, told_join, outputs-append, inputs-append, reads-append, gained-append}
-use Rattle.fx_run_core.proofs.Ending.{devices_reached, made_more, ran_here, ran_stopped, asks_next, fails, fault_kept}
+use Rattle.fx_run_core.proofs.Ending.{devices_reached, made_more, ran_here, ran_stopped, asks_next, puts_last, fails, fault_kept}
 
 abbrev Tale : Type 0
 Tale = Option (List ℕ)
@@ -127,14 +127,14 @@ module _ (image : Image) (schedule : List ℕ) (unplug : Option (ℕ × ℕ)) (b
     ends Spent k gains loses less e = absurd e
     ends (Device i) k gains loses less (op, asks, is, carries, put, read) =
         subst (λ t. Ending (Device i) n t gains loses) (sym (fault_kept i (request_of op) m.bus k.bus carries)) (record {
-          ran = ran_here image schedule budget unplug boxes m n h.reached (Device i) T T m.bus refl refl (devices_same boxes unplug m.bus h.devices) refl (omega (arith, less)) (λ e. cc);
+          ran = ran_here image schedule budget unplug boxes m n h.reached (Device i) T T m.bus refl refl (devices_same boxes unplug m.bus h.devices) refl (omega (arith, less)) (λ e. cc) less;
           output_is = puts_same gains put;
           input_is = reads_same loses read;
           cause = let f = fails boxes unplug i (request_of op) m.bus k.bus carries h.devices in (op, asks_next image schedule budget unplug boxes m n h.reached op asks, is, f.0, f.1, f.2, f.3, f.4, f.5, f.6);
         })
     ends ReadFault k gains loses less (asks, rose, same, put, read) =
         subst (λ (b : BusState). Ending ReadFault n b.transcript gains loses) (sym same) (record {
-          ran = ran_here image schedule budget unplug boxes m n h.reached ReadFault T T m.bus refl refl (devices_same boxes unplug m.bus h.devices) refl (omega (arith, less)) (λ e. cc);
+          ran = ran_here image schedule budget unplug boxes m n h.reached ReadFault T T m.bus refl refl (devices_same boxes unplug m.bus h.devices) refl (omega (arith, less)) (λ e. cc) less;
           output_is = puts_same gains put;
           input_is = reads_same loses read;
           cause = (λ answer rest. ap made_of (next_is image schedule m n h.reached (answer ∷ rest)) ∙ asks answer rest, rose_since i0 i1 i2 in_order rose);
@@ -144,14 +144,14 @@ module _ (image : Image) (schedule : List ℕ) (unplug : Option (ℕ × ℕ)) (b
         let outs : outputs (T ++ made) ≡ outputs T ++ byte ∷ [] = outputs-append T made ∙ ap (λ o. outputs T ++ o) puts in
         let ins : inputs (T ++ made) ≡ inputs T = inputs-append T made ∙ ap (λ o. inputs T ++ o) silent ∙ append-nil (inputs T) in
         subst (λ t. Ending WriteFault (n + 1) t gains loses) (sym more) (record {
-          ran = ran_here image schedule budget unplug boxes k (n + 1) (reached_next image schedule m n h.reached made k goes more) WriteFault (T ++ made) T k.bus (sym more) refl (devices_reached boxes unplug made m.bus k.bus reaches goes.one h.devices) refl (omega (arith, less)) (λ e. cc);
+          ran = ran_here image schedule budget unplug boxes k (n + 1) (reached_next image schedule m n h.reached made k goes more) WriteFault (T ++ made) T k.bus (sym more) refl (devices_reached boxes unplug made m.bus k.bus reaches goes.one h.devices) refl (omega (arith, less)) (λ e. cc) tt;
           output_is = told_join (Gained (outputs T)) Same (GainedButLast (outputs (T ++ made))) (λ x y z g q. (outputs T, byte, outs, q ∙ g)) taken gained gains h.output put;
           input_is = subst (λ o. Told (Reads o) left loses) (sym ins) (reads_same loses read);
-          cause = rose_since o0 o1 o2 out_order rose;
+          cause = (puts_last image schedule budget unplug boxes m n h.reached made k byte goes puts, rose_since o0 o1 o2 out_order rose);
         })
     ends OutOfMemory k gains loses less (same, put, read) =
         subst (λ (b : BusState). Ending OutOfMemory n b.transcript gains loses) (sym same) (record {
-          ran = ran_here image schedule budget unplug boxes m n h.reached OutOfMemory T T m.bus refl refl (devices_same boxes unplug m.bus h.devices) refl (omega (arith, less)) (λ e. cc);
+          ran = ran_here image schedule budget unplug boxes m n h.reached OutOfMemory T T m.bus refl refl (devices_same boxes unplug m.bus h.devices) refl (omega (arith, less)) (λ e. cc) tt;
           output_is = puts_same gains put;
           input_is = wanted loses read;
           cause = tt;
@@ -168,7 +168,7 @@ module _ (image : Image) (schedule : List ℕ) (unplug : Option (ℕ × ℕ)) (b
   module _ (budget i0 i1 o0 o1 : ℕ) where
     pub spent : n ≤ budget → budget ≤ n → Done image schedule budget unplug boxes taken left i0 o0 Spent n T gained lost i1 o1
     spent within over = record {
-      ran = ran_here image schedule budget unplug boxes m n h.reached Spent T T m.bus refl refl (devices_same boxes unplug m.bus h.devices) refl within (λ e. omega (arith, within, over));
+      ran = ran_here image schedule budget unplug boxes m n h.reached Spent T T m.bus refl refl (devices_same boxes unplug m.bus h.devices) refl within (λ e. omega (arith, within, over)) tt;
       output_is = h.output;
       input_is = h.input;
       cause = tt;
@@ -192,6 +192,7 @@ nothing_ran image schedule budget unplug boxes taken left i0 i1 o0 o1 now empty 
         fed = refl;
         within = omega (arith);
         spent = λ e. cc;
+        left = tt;
         devices = λ d ne. nothing_part (box_of d boxes) (plug_of unplug d);
         console = tt;
       };

@@ -133,6 +133,18 @@ abbrev pub NextAsks : Image → List ℕ → ℕ → List DeviceOp → DeviceOp 
 NextAsks image schedule n made op =
     (answer : ℕ) (rest : List ℕ) → made_of (turn (move image) (named schedule n % vcpus image) (image_after image (taken_by made ++ answer ∷ rest) (names schedule n))) ≡ asked op answer ∷ []
 
+-- The last of n turns put a byte out: the turn after those before it asks for a store to the console's register
+-- 0, and that store is the last operation made.
+pub record PutsLast (image : Image) (schedule : List ℕ) (n : ℕ) (made : List DeviceOp) : Type 0 where
+  pub before : ℕ
+  pub earlier : List DeviceOp
+  pub last : DeviceOp
+  pub turn : n ≡ before + 1
+  pub order : made ≡ earlier ++ last ∷ []
+  pub asks : NextAsks image schedule before earlier last
+  pub console : (last.device ≡ 0) × (last.reg ≡ 0)
+  pub store : last.write ≡ true
+
 -- Why a run ended that neither stopped nor spent its budget. `input` and `lost` are the input's counts of
 -- faults before and after, `out` and `failed` the output's.
 abbrev pub HasCause : Image → List ℕ → Option (ℕ × ℕ) → List (Option Meaning) → ℕ → List DeviceOp → ℕ → ℕ → ℕ → ℕ → Outcome → Type 0
@@ -142,8 +154,14 @@ HasCause image schedule unplug boxes n made input lost out failed (Device i) =
 HasCause image schedule unplug boxes n made input lost out failed ReadFault =
     ((answer : ℕ) (rest : List ℕ) → made_of (turn (move image) (named schedule n % vcpus image) (image_after image (taken_by made ++ answer ∷ rest) (names schedule n))) ≡ console_load answer ∷ [])
     × Rose input lost
-HasCause image schedule unplug boxes n made input lost out failed WriteFault = Rose out failed
+HasCause image schedule unplug boxes n made input lost out failed WriteFault = PutsLast image schedule n made × Rose out failed
 HasCause image schedule unplug boxes n made input lost out failed _ = Unit {0}
+
+-- A turn whose operation failed was one that the budget left.
+abbrev pub HasTurnLeft : Outcome → ℕ → ℕ → Type 0
+HasTurnLeft (Device i) n budget = n < budget
+HasTurnLeft ReadFault n budget = n < budget
+HasTurnLeft _ n budget = Unit {0}
 
 -- What the output gained of the operations, and what the input lost.
 abbrev pub Output : Outcome → List DeviceOp → List ℕ → List ℕ → Type 0
@@ -164,5 +182,6 @@ pub record RunsTo (image : Image) (schedule : List ℕ) (budget : ℕ) (unplug :
   pub fed : is_fed image (names schedule n) (boot image (taken_by made)) ≡ true
   pub within : n ≤ budget
   pub spent : outcome ≡ Spent → n ≡ budget
+  pub left : HasTurnLeft outcome n budget
   pub devices : (device : ℕ) → device ≢ 0 → Part (box_of device boxes) (plug_of unplug device) (operations_of device made)
   pub console : AllOnes (console_others made)

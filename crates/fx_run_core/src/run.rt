@@ -37,11 +37,38 @@ pub fn run_on<I: Source, O: Sink>(
     input: &mut I,
     out: &mut O,
 ) -> (Outcome, u64)
-    requires { (running_of machine.old.image machine.old.memory machine.old.cpus.items (bus_state (λ d. (⟦<dyn Device as Device>⟧ d.vtable).meaning d.value) machine.old.bus.boxes machine.old.bus.transcript.items) machine.old.stop) ≡ booted (running_of machine.old.image machine.old.memory machine.old.cpus.items (bus_state (λ d. (⟦<dyn Device as Device>⟧ d.vtable).meaning d.value) machine.old.bus.boxes machine.old.bus.transcript.items) machine.old.stop).image (running_of machine.old.image machine.old.memory machine.old.cpus.items (bus_state (λ d. (⟦<dyn Device as Device>⟧ d.vtable).meaning d.value) machine.old.bus.boxes machine.old.bus.transcript.items) machine.old.stop).bus × ((running_of machine.old.image machine.old.memory machine.old.cpus.items (bus_state (λ d. (⟦<dyn Device as Device>⟧ d.vtable).meaning d.value) machine.old.bus.boxes machine.old.bus.transcript.items) machine.old.stop).bus.transcript ≡ []) }
-    ensures ran { RunsTo (running_of machine.old.image machine.old.memory machine.old.cpus.items (bus_state (λ d. (⟦<dyn Device as Device>⟧ d.vtable).meaning d.value) machine.old.bus.boxes machine.old.bus.transcript.items) machine.old.stop).image schedule.now budget unplug (running_of machine.old.image machine.old.memory machine.old.cpus.items (bus_state (λ d. (⟦<dyn Device as Device>⟧ d.vtable).meaning d.value) machine.old.bus.boxes machine.old.bus.transcript.items) machine.old.stop).bus.boxes result.0 result.1 (running_of machine.new.image machine.new.memory machine.new.cpus.items (bus_state (λ d. (⟦<dyn Device as Device>⟧ d.vtable).meaning d.value) machine.new.bus.boxes machine.new.bus.transcript.items) machine.new.stop).bus.transcript }
-    ensures output { Told (Output result.0 (running_of machine.new.image machine.new.memory machine.new.cpus.items (bus_state (λ d. (⟦<dyn Device as Device>⟧ d.vtable).meaning d.value) machine.new.bus.boxes machine.new.bus.transcript.items) machine.new.stop).bus.transcript) (O.taken out.old) (O.taken out.new) }
-    ensures input { Told (Input result.0 (running_of machine.new.image machine.new.memory machine.new.cpus.items (bus_state (λ d. (⟦<dyn Device as Device>⟧ d.vtable).meaning d.value) machine.new.bus.boxes machine.new.bus.transcript.items) machine.new.stop).bus.transcript) (I.left input.old) (I.left input.new) }
-    ensures cause { HasCause (running_of machine.old.image machine.old.memory machine.old.cpus.items (bus_state (λ d. (⟦<dyn Device as Device>⟧ d.vtable).meaning d.value) machine.old.bus.boxes machine.old.bus.transcript.items) machine.old.stop).image schedule.now unplug (running_of machine.old.image machine.old.memory machine.old.cpus.items (bus_state (λ d. (⟦<dyn Device as Device>⟧ d.vtable).meaning d.value) machine.old.bus.boxes machine.old.bus.transcript.items) machine.old.stop).bus.boxes result.1 (running_of machine.new.image machine.new.memory machine.new.cpus.items (bus_state (λ d. (⟦<dyn Device as Device>⟧ d.vtable).meaning d.value) machine.new.bus.boxes machine.new.bus.transcript.items) machine.new.stop).bus.transcript (I.faults input.old) (I.faults input.new) (O.faults out.old) (O.faults out.new) result.0 }
+    requires { let before = running_of machine.old.image machine.old.memory machine.old.cpus.items
+        (bus_state (λ d. (⟦<dyn Device as Device>⟧ d.vtable).meaning d.value)
+        machine.old.bus.boxes machine.old.bus.transcript.items) machine.old.stop in
+        (before ≡ booted before.image before.bus) × (before.bus.transcript ≡ []) }
+    ensures ran { let before = running_of machine.old.image machine.old.memory
+        machine.old.cpus.items
+        (bus_state (λ d. (⟦<dyn Device as Device>⟧ d.vtable).meaning d.value)
+        machine.old.bus.boxes machine.old.bus.transcript.items) machine.old.stop in
+        let after = running_of machine.new.image machine.new.memory machine.new.cpus.items
+        (bus_state (λ d. (⟦<dyn Device as Device>⟧ d.vtable).meaning d.value)
+        machine.new.bus.boxes machine.new.bus.transcript.items) machine.new.stop in
+        RunsTo before.image schedule.now budget unplug before.bus.boxes
+        result.0 result.1 after.bus.transcript }
+    ensures output { let after = running_of machine.new.image machine.new.memory
+        machine.new.cpus.items
+        (bus_state (λ d. (⟦<dyn Device as Device>⟧ d.vtable).meaning d.value)
+        machine.new.bus.boxes machine.new.bus.transcript.items) machine.new.stop in
+        Told (Output result.0 after.bus.transcript) (O.taken out.old) (O.taken out.new) }
+    ensures input { let after = running_of machine.new.image machine.new.memory
+        machine.new.cpus.items
+        (bus_state (λ d. (⟦<dyn Device as Device>⟧ d.vtable).meaning d.value)
+        machine.new.bus.boxes machine.new.bus.transcript.items) machine.new.stop in
+        Told (Input result.0 after.bus.transcript) (I.left input.old) (I.left input.new) }
+    ensures cause { let before = running_of machine.old.image machine.old.memory
+        machine.old.cpus.items
+        (bus_state (λ d. (⟦<dyn Device as Device>⟧ d.vtable).meaning d.value)
+        machine.old.bus.boxes machine.old.bus.transcript.items) machine.old.stop in
+        let after = running_of machine.new.image machine.new.memory machine.new.cpus.items
+        (bus_state (λ d. (⟦<dyn Device as Device>⟧ d.vtable).meaning d.value)
+        machine.new.bus.boxes machine.new.bus.transcript.items) machine.new.stop in
+        HasCause before.image schedule.now unplug before.bus.boxes result.1 after.bus.transcript
+        (I.faults input.old) (I.faults input.new) (O.faults out.old) (O.faults out.new) result.0 }
     ensures read { I.faults input.old ≤ I.faults input.new }
     ensures put { O.faults out.old ≤ O.faults out.new }
 {
@@ -89,10 +116,21 @@ pub fn run<I: Source, O: Sink>(
 ) -> Ended
     requires whole { IsImage image.now }
     requires few { length devices.items ≤ 15 }
-    ensures ran { RunsTo image.now schedule.now budget unplug (map (option_map (λ d. (⟦<dyn Device as Device>⟧ d.vtable).meaning d.value)) (plugged 15 devices.items)) result.outcome result.turns result.transcript }
-    ensures output { Told (Output result.outcome result.transcript) (O.taken out.old) (O.taken out.new) }
-    ensures input { Told (Input result.outcome result.transcript) (I.left input.old) (I.left input.new) }
-    ensures cause { HasCause image.now schedule.now unplug (map (option_map (λ d. (⟦<dyn Device as Device>⟧ d.vtable).meaning d.value)) (plugged 15 devices.items)) result.turns result.transcript (I.faults input.old) (I.faults input.new) (O.faults out.old) (O.faults out.new) result.outcome }
+    ensures ran { let boxes =
+        map (option_map (λ d. (⟦<dyn Device as Device>⟧ d.vtable).meaning d.value))
+        (plugged 15 devices.items) in
+        RunsTo image.now schedule.now budget unplug boxes
+        result.outcome result.turns result.transcript }
+    ensures output { Told (Output result.outcome result.transcript) (O.taken out.old)
+        (O.taken out.new) }
+    ensures input { Told (Input result.outcome result.transcript) (I.left input.old)
+        (I.left input.new) }
+    ensures cause { let boxes =
+        map (option_map (λ d. (⟦<dyn Device as Device>⟧ d.vtable).meaning d.value))
+        (plugged 15 devices.items) in
+        HasCause image.now schedule.now unplug boxes result.turns result.transcript
+        (I.faults input.old) (I.faults input.new) (O.faults out.old) (O.faults out.new)
+        result.outcome }
     ensures read { I.faults input.old ≤ I.faults input.new }
     ensures put { O.faults out.old ≤ O.faults out.new }
 {

@@ -47,11 +47,31 @@ pub fn turn_once<I: Source, O: Sink>(
     input: &mut I,
     out: &mut O,
 ) -> Option<Outcome>
-    requires { (running_of machine.old.image machine.old.memory machine.old.cpus.items (bus_state (λ d. (⟦<dyn Device as Device>⟧ d.vtable).meaning d.value) machine.old.bus.boxes machine.old.bus.transcript.items) machine.old.stop).stop ≡ None }
+    requires { let before = running_of machine.old.image machine.old.memory machine.old.cpus.items
+        (bus_state (λ d. (⟦<dyn Device as Device>⟧ d.vtable).meaning d.value)
+        machine.old.bus.boxes machine.old.bus.transcript.items) machine.old.stop in
+        before.stop ≡ None }
     ensures read { I.faults input.old ≤ I.faults input.new }
     ensures put { O.faults out.old ≤ O.faults out.new }
-    ensures goes { IfNone result (WentOn (running_of machine.old.image machine.old.memory machine.old.cpus.items (bus_state (λ d. (⟦<dyn Device as Device>⟧ d.vtable).meaning d.value) machine.old.bus.boxes machine.old.bus.transcript.items) machine.old.stop) vcpu (running_of machine.new.image machine.new.memory machine.new.cpus.items (bus_state (λ d. (⟦<dyn Device as Device>⟧ d.vtable).meaning d.value) machine.new.bus.boxes machine.new.bus.transcript.items) machine.new.stop) (O.taken out.old) (O.taken out.new) (I.left input.old) (I.left input.new)) }
-    ensures ends { IfSome result (λ outcome. EndsBy (running_of machine.old.image machine.old.memory machine.old.cpus.items (bus_state (λ d. (⟦<dyn Device as Device>⟧ d.vtable).meaning d.value) machine.old.bus.boxes machine.old.bus.transcript.items) machine.old.stop) vcpu (running_of machine.new.image machine.new.memory machine.new.cpus.items (bus_state (λ d. (⟦<dyn Device as Device>⟧ d.vtable).meaning d.value) machine.new.bus.boxes machine.new.bus.transcript.items) machine.new.stop) (O.taken out.old) (O.taken out.new) (I.left input.old) (I.left input.new) (I.faults input.old) (I.faults input.new) (O.faults out.old) (O.faults out.new) outcome) }
+    ensures goes { let before = running_of machine.old.image machine.old.memory
+        machine.old.cpus.items
+        (bus_state (λ d. (⟦<dyn Device as Device>⟧ d.vtable).meaning d.value)
+        machine.old.bus.boxes machine.old.bus.transcript.items) machine.old.stop in
+        let after = running_of machine.new.image machine.new.memory machine.new.cpus.items
+        (bus_state (λ d. (⟦<dyn Device as Device>⟧ d.vtable).meaning d.value)
+        machine.new.bus.boxes machine.new.bus.transcript.items) machine.new.stop in
+        IfNone result (WentOn before vcpu after
+        (O.taken out.old) (O.taken out.new) (I.left input.old) (I.left input.new)) }
+    ensures ends { let before = running_of machine.old.image machine.old.memory
+        machine.old.cpus.items
+        (bus_state (λ d. (⟦<dyn Device as Device>⟧ d.vtable).meaning d.value)
+        machine.old.bus.boxes machine.old.bus.transcript.items) machine.old.stop in
+        let after = running_of machine.new.image machine.new.memory machine.new.cpus.items
+        (bus_state (λ d. (⟦<dyn Device as Device>⟧ d.vtable).meaning d.value)
+        machine.new.bus.boxes machine.new.bus.transcript.items) machine.new.stop in
+        IfSome result (λ outcome. EndsBy before vcpu after
+        (O.taken out.old) (O.taken out.new) (I.left input.old) (I.left input.new)
+        (I.faults input.old) (I.faults input.new) (O.faults out.old) (O.faults out.new) outcome) }
 {
     match machine.turn(vcpu) {
         Turn::Went => None,

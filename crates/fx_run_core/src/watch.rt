@@ -17,10 +17,27 @@ pub struct Watch {
 
 /// Begins to watch a device; it is unplugged at once where no operation is to come before.
 pub fn begin(machine: &mut Machine, unplug: Option<(u16, u64)>) -> Option<Watch>
-    requires { (running_of machine.old.image machine.old.memory machine.old.cpus.items (bus_state (λ d. (⟦<dyn Device as Device>⟧ d.vtable).meaning d.value) machine.old.bus.boxes machine.old.bus.transcript.items) machine.old.stop).bus.transcript ≡ [] }
-    ensures rebox { Rebox (running_of machine.old.image machine.old.memory machine.old.cpus.items (bus_state (λ d. (⟦<dyn Device as Device>⟧ d.vtable).meaning d.value) machine.old.bus.boxes machine.old.bus.transcript.items) machine.old.stop) (running_of machine.new.image machine.new.memory machine.new.cpus.items (bus_state (λ d. (⟦<dyn Device as Device>⟧ d.vtable).meaning d.value) machine.new.bus.boxes machine.new.bus.transcript.items) machine.new.stop) }
+    requires { let before = running_of machine.old.image machine.old.memory machine.old.cpus.items
+        (bus_state (λ d. (⟦<dyn Device as Device>⟧ d.vtable).meaning d.value)
+        machine.old.bus.boxes machine.old.bus.transcript.items) machine.old.stop in
+        before.bus.transcript ≡ [] }
+    ensures rebox { let before = running_of machine.old.image machine.old.memory
+        machine.old.cpus.items
+        (bus_state (λ d. (⟦<dyn Device as Device>⟧ d.vtable).meaning d.value)
+        machine.old.bus.boxes machine.old.bus.transcript.items) machine.old.stop in
+        let after = running_of machine.new.image machine.new.memory machine.new.cpus.items
+        (bus_state (λ d. (⟦<dyn Device as Device>⟧ d.vtable).meaning d.value)
+        machine.new.bus.boxes machine.new.bus.transcript.items) machine.new.stop in
+        Rebox before after }
     ensures watching { Watching unplug result [] }
-    ensures devices { Devices (running_of machine.old.image machine.old.memory machine.old.cpus.items (bus_state (λ d. (⟦<dyn Device as Device>⟧ d.vtable).meaning d.value) machine.old.bus.boxes machine.old.bus.transcript.items) machine.old.stop).bus.boxes unplug (running_of machine.new.image machine.new.memory machine.new.cpus.items (bus_state (λ d. (⟦<dyn Device as Device>⟧ d.vtable).meaning d.value) machine.new.bus.boxes machine.new.bus.transcript.items) machine.new.stop).bus }
+    ensures devices { let before = running_of machine.old.image machine.old.memory
+        machine.old.cpus.items
+        (bus_state (λ d. (⟦<dyn Device as Device>⟧ d.vtable).meaning d.value)
+        machine.old.bus.boxes machine.old.bus.transcript.items) machine.old.stop in
+        let after = running_of machine.new.image machine.new.memory machine.new.cpus.items
+        (bus_state (λ d. (⟦<dyn Device as Device>⟧ d.vtable).meaning d.value)
+        machine.new.bus.boxes machine.new.bus.transcript.items) machine.new.stop in
+        Devices before.bus.boxes unplug after.bus }
 {
     match unplug {
         None => None,
@@ -36,8 +53,22 @@ pub fn begin(machine: &mut Machine, unplug: Option<(u16, u64)>) -> Option<Watch>
 
 /// Goes on watching after a turn, which made the operations from number `count` on, one at most.
 pub fn go_on(machine: &mut Machine, watch: Option<Watch>, count: usize) -> Option<Watch>
-    ensures rebox { Rebox (running_of machine.old.image machine.old.memory machine.old.cpus.items (bus_state (λ d. (⟦<dyn Device as Device>⟧ d.vtable).meaning d.value) machine.old.bus.boxes machine.old.bus.transcript.items) machine.old.stop) (running_of machine.new.image machine.new.memory machine.new.cpus.items (bus_state (λ d. (⟦<dyn Device as Device>⟧ d.vtable).meaning d.value) machine.new.bus.boxes machine.new.bus.transcript.items) machine.new.stop) }
-    ensures watching { Watched count watch result (running_of machine.old.image machine.old.memory machine.old.cpus.items (bus_state (λ d. (⟦<dyn Device as Device>⟧ d.vtable).meaning d.value) machine.old.bus.boxes machine.old.bus.transcript.items) machine.old.stop).bus (running_of machine.new.image machine.new.memory machine.new.cpus.items (bus_state (λ d. (⟦<dyn Device as Device>⟧ d.vtable).meaning d.value) machine.new.bus.boxes machine.new.bus.transcript.items) machine.new.stop).bus }
+    ensures rebox { let before = running_of machine.old.image machine.old.memory
+        machine.old.cpus.items
+        (bus_state (λ d. (⟦<dyn Device as Device>⟧ d.vtable).meaning d.value)
+        machine.old.bus.boxes machine.old.bus.transcript.items) machine.old.stop in
+        let after = running_of machine.new.image machine.new.memory machine.new.cpus.items
+        (bus_state (λ d. (⟦<dyn Device as Device>⟧ d.vtable).meaning d.value)
+        machine.new.bus.boxes machine.new.bus.transcript.items) machine.new.stop in
+        Rebox before after }
+    ensures watching { let before = running_of machine.old.image machine.old.memory
+        machine.old.cpus.items
+        (bus_state (λ d. (⟦<dyn Device as Device>⟧ d.vtable).meaning d.value)
+        machine.old.bus.boxes machine.old.bus.transcript.items) machine.old.stop in
+        let after = running_of machine.new.image machine.new.memory machine.new.cpus.items
+        (bus_state (λ d. (⟦<dyn Device as Device>⟧ d.vtable).meaning d.value)
+        machine.new.bus.boxes machine.new.bus.transcript.items) machine.new.stop in
+        Watched count watch result before.bus after.bus }
 {
     let Some(watch) = watch else {
         return None;

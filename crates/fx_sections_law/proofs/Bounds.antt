@@ -34,6 +34,15 @@ module _ (p : TProgram) (g : Grants) (k : Config) (at : Placement) (is : placed 
   initial : (nat_lt 8388608 (initial_size p) ≡ false) × (◌≡◌ {A = Result Placement PlaceError} (Ok (placement_of p g k)) (Ok at))
   initial = unless _ _ _ at bytes.1
 
+  keyed_few : (b c : Bool) → b ≡ true → b && c ≡ false → c ≡ false
+  keyed_few true c keyed few = few
+  keyed_few false c keyed few = cc
+
+  pub pairs_keyed : is_keyed k.mechanism ≡ true → length (program_pairs g k) ≤ 14
+  pairs_keyed keyed =
+      let few = unless (is_keyed k.mechanism && nat_lt 14 (length (program_pairs g k))) (TooManyKeys (length (program_pairs g k))) _ at is in
+      ltb-false 14 (length (program_pairs g k)) (keyed_few (is_keyed k.mechanism) (nat_lt 14 (length (program_pairs g k))) keyed few.0)
+
   pub objects_few : length p.globals + length p.literals ≤ 32000
   objects_few = ltb-false 32000 (length p.globals + length p.literals) objects.0
 

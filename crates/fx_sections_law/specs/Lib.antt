@@ -1,3 +1,4 @@
 pub mod Laws
 pub mod Granules
 pub mod Permits
+pub mod PlacementLaw

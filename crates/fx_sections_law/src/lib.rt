@@ -3,8 +3,10 @@
 #![tactic(auto)]
 
 ghost use Rattle.fx_sections_law.specs.Granules.{GranulesAreUnshared};
-ghost use Rattle.fx_sections_law.specs.Laws.{PairsDiffer, SectionsAreApart, GlobalsAreInTheirSections, GlobalsAreApart, GlobalsStandBehindTheRuntime, RegionsAreApart};
+ghost use Rattle.fx_sections_law.specs.Laws.{PairsDiffer, SectionsAreApart, GlobalsAreInTheirSections, GlobalsAreApart};
+ghost use Rattle.fx_sections_law.specs.Laws.{GlobalsStandBehindTheRuntime, RegionsAreApart};
 ghost use Rattle.fx_sections_law.specs.Permits.{KeysPermitWhatIsGranted};
+ghost use Rattle.fx_sections_law.specs.PlacementLaw.{PlacementsKeepTheLaw};
 
 /// Every section is of one pair of readers and writers, and no two are of the same.
 pub fn pairs_differ()
@@ -41,4 +43,10 @@ pub fn granules_are_unshared()
 /// A compartment's PKRU value permits exactly what the pairs of the sections grant.
 pub fn keys_permit_what_is_granted()
     ensures { KeysPermitWhatIsGranted }
+{}
+
+/// A placement keeps all of these laws, which are one: every page of a section belongs to one pair, each object
+/// lies in pages of exactly its own pair, and keys permit what the pairs grant.
+pub fn placements_keep_the_law()
+    ensures { PlacementsKeepTheLaw }
 {}

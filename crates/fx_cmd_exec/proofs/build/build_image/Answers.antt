@@ -1,6 +1,7 @@
 use Rattle.std.proofs.Common.{subst, sym}
 use Rattle.fx_cmd_exec.specs.Causes.{HasProgram}
-use Rattle.fx_cmd_exec.proofs.Holding.{same_twice, program_before, built, writes}
+use Rattle.std.proofs.lemmas.Result.{err_from_is_err_and}
+use Rattle.fx_cmd_exec.proofs.Holding.{same_twice, program_before, built, writes, unbuilt_leaves, image_leaving}
 use Rattle.fx_cmd_exec.proofs.build.build_image.Goals as goal
 
 pub returns-clause-built : goal.returns-clause-built
@@ -18,3 +19,13 @@ returns-clause-written g c =
     let third = g.F.Files.held c.take_source.new.files in
     writes c.args.words.now.run.image.now first third (g.F.Files.held c.make_image.new.files) c.make_image.result
     (same_twice first second third c.in_ok-take_config.ensures.keeps c.in_ok-constants.ensures.keeps) c.make_image.ensures.written c.make_image.ensures.others
+
+pub returns-in_err-constants-clause-counted : goal.returns-in_err-constants-clause-counted
+returns-in_err-constants-clause-counted g c =
+    let p = err_from_is_err_and c.from_residual-in_err-constants.result c.from_residual-in_err-constants.ensures.1 in
+    rw (p.1, p.2) (unbuilt_leaves (g.F.Files.held c.args.files.now) (g.F.Files.held c.take_config.new.files) (g.F.Files.faults c.args.files.now) (g.F.Files.faults c.take_config.new.files) (g.F.Files.faults c.take_source.new.files)
+    c.in_err-constants.field-0.0 c.in_ok-take_config.ensures.keeps c.in_ok-take_config.ensures.counted c.in_err-constants.ensures.counted)
+
+pub returns-clause-counted : goal.returns-clause-counted
+returns-clause-counted g c =
+    image_leaving (g.F.Files.held c.args.files.now) (g.F.Files.faults c.args.files.now) (g.F.Files.faults c.take_source.new.files) (g.F.Files.faults c.make_image.new.files) c.make_image.result c.make_image.ensures.cause

@@ -1,6 +1,6 @@
 use Rattle.std.proofs.Common.{subst, sym}
-use Rattle.fx_cmd_load.specs.Programs.{ProgramCause}
-use Rattle.fx_cmd_load.proofs.Causes.{unloaded_cause}
+use Rattle.fx_cmd_load.specs.Programs.{ProgramCause, ProgramLeaves}
+use Rattle.fx_cmd_load.proofs.Causes.{unloaded_cause, unloaded_leaves}
 use Rattle.fx_cmd_load.proofs.checking.loaded.Goals as goal
 
 pub returns-in-Err-clause-cause : goal.returns-in-Err-clause-cause
@@ -9,3 +9,10 @@ returns-in-Err-clause-cause g c =
     let before = g.F.Files.faults c.args.files.now in
     let now = g.F.Files.faults c.load.new.files in
     subst (ProgramCause c.args.name.now held before now) (sym c.unloaded.ensures) (unloaded_cause c.args.name.now held before now c.in-Err.error c.in-Err.ensures.cause)
+
+pub returns-in-Err-clause-counted : goal.returns-in-Err-clause-counted
+returns-in-Err-clause-counted g c =
+    let held = g.F.Files.held c.args.files.now in
+    let before = g.F.Files.faults c.args.files.now in
+    let now = g.F.Files.faults c.load.new.files in
+    subst (ProgramLeaves held before now) (sym c.unloaded.ensures) (unloaded_leaves held before now c.in-Err.error c.in-Err.ensures.counted)

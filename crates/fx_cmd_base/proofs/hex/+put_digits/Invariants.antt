@@ -1,4 +1,4 @@
-use Rattle.fx_cmd_run.proofs.verdict_line.+put_digits.Given as goal
+use Rattle.fx_cmd_base.proofs.hex.+put_digits.Given as goal
 
 abbrev pub decreases-put_digits : goal.decreases-put_digits
 decreases-put_digits l = l.count

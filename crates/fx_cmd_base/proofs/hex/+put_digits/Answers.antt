@@ -1,7 +1,7 @@
 use Rattle.std.proofs.Common.{◌∙◌, ◌-◌, ◌/◌, ◌%◌, ◌<◌, ◌∷◌, ◌++◌, [], sym, ap, append_assoc, arith}
-use Rattle.fx_cmd_run.specs.VerdictLines.{hex_digit, hex_digits}
-use Rattle.fx_cmd_run.proofs.Hex.{hex_step}
-use Rattle.fx_cmd_run.proofs.verdict_line.+put_digits.Goals as goal
+use Rattle.fx_cmd_base.specs.Hex.{hex_digit, hex_digits}
+use Rattle.fx_cmd_base.proofs.Digits.{hex_step}
+use Rattle.fx_cmd_base.proofs.hex.+put_digits.Goals as goal
 
 pub returns : goal.returns
 returns t c =
