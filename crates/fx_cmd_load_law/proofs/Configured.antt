@@ -10,10 +10,12 @@ use Rattle.fx_c_types_model.specs.Tables.{tables}
 use Rattle.fx_c_types_model.specs.Trees.{AreRight}
 use Rattle.fx_c_types_model.specs.Each.{EachInAll}
 use Rattle.fx_c_types_model.specs.Fits.{DeviceFits, ElementFits}
+use Rattle.fx_c_types_model.specs.Lowerable.{IsLowerable}
 use Rattle.fx_c_types_texts_law.specs.Texts.{AreFilesOf, bytes_of}
 use Rattle.fx_c_types_texts_law.proofs.Devices.{devices_fit}
 use Rattle.fx_c_types_texts_law.proofs.Elements.{elements_fit}
 use Rattle.fx_c_types_texts_law.proofs.Numbers.{bodies_right}
+use Rattle.fx_c_types_lowerable_law.proofs.Lowerable.{lowerable}
 use Rattle.fx_cmd_load.specs.declared.parsing.ParsedFile.{ParsedFile}
 use Rattle.fx_cmd_load.specs.Named.{Named, from_library}
 use Rattle.fx_cmd_load.specs.Reading.{AreRead}
@@ -36,12 +38,16 @@ bytes_few held [] (t ∷ ts) read = absurd read
 bytes_few held (n ∷ ns) [] read = absurd read
 bytes_few held (n ∷ ns) (t ∷ ts) read = omega (arith, read.1, bytes_few held ns ts read.2)
 
+short : (name : List ℕ) (held : Option Held) (k : Config) (p : TProgram) (is : IsProgramOf name held k p) → HasFewParts k → bytes_of is.1.1.0 ≤ 67108864
+short name held k p is few = omega (arith, bytes_few held (from_library 0 k.libraries) is.1.1.0 is.1.1.1, named_count 0 k.libraries, few.files)
+
 pub configured_right : (name : List ℕ) (held : Option Held) (k : Config) (p : TProgram) → IsProgramOf name held k p → HasFewParts k → All (λ (f : TFunction). AreRight (tables p f) (tstmt_trees f.body.items)) p.functions
 configured_right name held k p is few =
-    let ns : List Named = from_library 0 k.libraries in
-    let given = is.1.1 in
-    let short : bytes_of given.0 ≤ 67108864 = omega (arith, bytes_few held ns given.0 given.1, named_count 0 k.libraries, few.files) in
-    bodies_right given.0 (sources_of is.0) p (files_are ns given.0 is.0 given.2) short is.2
+    bodies_right is.1.1.0 (sources_of is.0) p (files_are (from_library 0 k.libraries) is.1.1.0 is.0 is.1.1.2) (short name held k p is few) is.2
+
+pub configured_lowerable : (name : List ℕ) (held : Option Held) (k : Config) (p : TProgram) → IsProgramOf name held k p → HasFewParts k → IsLowerable p
+configured_lowerable name held k p is few =
+    lowerable is.1.1.0 (sources_of is.0) p (files_are (from_library 0 k.libraries) is.1.1.0 is.0 is.1.1.2) (short name held k p is few) is.2
 
 pub configured_fit : (name : List ℕ) (held : Option Held) (k : Config) (p : TProgram) → IsProgramOf name held k p → All (λ (f : TFunction). EachInAll DeviceFits (tstmt_trees f.body.items)) p.functions × All (λ (f : TFunction). EachInAll (ElementFits (struct_types p.structs)) (tstmt_trees f.body.items)) p.functions
 configured_fit name held k p is =

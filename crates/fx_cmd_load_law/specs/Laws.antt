@@ -9,6 +9,7 @@ use Rattle.fx_c_types_model.specs.Tables.{tables}
 use Rattle.fx_c_types_model.specs.Trees.{AreRight}
 use Rattle.fx_c_types_model.specs.Each.{EachInAll}
 use Rattle.fx_c_types_model.specs.Fits.{DeviceFits, ElementFits}
+use Rattle.fx_c_types_model.specs.Lowerable.{IsLowerable}
 use Rattle.fx_cmd_load.specs.Loading.{HasFewParts}
 use Rattle.fx_cmd_load.specs.Programs.{IsProgramOf}
 
@@ -22,3 +23,7 @@ abbrev pub ConfiguredProgramsFit : Type 0
 ConfiguredProgramsFit = (name : List ℕ) (held : Option Held) (k : Config) (p : TProgram) → IsProgramOf name held k p
     → All (λ (f : TFunction). EachInAll DeviceFits (tstmt_trees f.body.items)) p.functions
     × All (λ (f : TFunction). EachInAll (ElementFits (struct_types p.structs)) (tstmt_trees f.body.items)) p.functions
+
+-- it has all that its lowering takes
+abbrev pub ConfiguredProgramsAreLowerable : Type 0
+ConfiguredProgramsAreLowerable = (name : List ℕ) (held : Option Held) (k : Config) (p : TProgram) → IsProgramOf name held k p → HasFewParts k → IsLowerable p

@@ -1,0 +1,9 @@
+pub mod Layouts
+pub mod Constants
+pub mod Sources
+pub mod Words
+pub mod Made
+pub mod Bodies
+pub mod Programs
+pub mod Structs
+pub mod Lowerable
