@@ -1,0 +1,9 @@
+pub mod Pieces
+pub mod Constants
+pub mod Operands
+pub mod Cores
+pub mod Memory
+pub mod Pointers
+pub mod Copying
+pub mod Calls
+pub mod Functions
