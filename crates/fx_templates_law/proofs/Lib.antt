@@ -1,0 +1,4 @@
+pub mod Tested
+pub mod Parts
+pub mod Operators
+pub mod Rows
