@@ -65,7 +65,7 @@ pairs_distinct n globals = distinct_all (add_pair (private_pairs n) (common_pair
 same_itself : (p : Pair) → same_pair p p ≡ true
 same_itself p = ap (λ b. b && nat_eq p.writers p.writers) (eq-eqb p.readers p.readers refl) ∙ eq-eqb p.writers p.writers refl
 
-any_append : (t : Pair → Bool) (ps qs : List Pair) → list_any t (ps ++ qs) ≡ (list_any t ps || list_any t qs)
+pub any_append : (t : Pair → Bool) (ps qs : List Pair) → list_any t (ps ++ qs) ≡ (list_any t ps || list_any t qs)
 any_append t [] qs = refl
 any_append t (p ∷ ps) qs = ap (λ b. t p || b) (any_append t ps qs) ∙ join (t p) (list_any t ps) (list_any t qs)
   where

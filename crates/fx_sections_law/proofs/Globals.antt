@@ -126,7 +126,7 @@ get_or-addresses ss (o ∷ os) [] i d same less = absurd (omega arith)
 get_or-addresses ss (o ∷ os) (at ∷ offs) zero d same less = refl
 get_or-addresses ss (o ∷ os) (at ∷ offs) (suc i) d same less = get_or-addresses ss os offs i d (omega arith) (omega arith)
 
-page_at : (ss : List PlacedSection) (s : ℕ) (d : PlacedSection) → s < length ss → page_of ss s ≡ (get_or ss s d).page
+pub page_at : (ss : List PlacedSection) (s : ℕ) (d : PlacedSection) → s < length ss → page_of ss s ≡ (get_or ss s d).page
 page_at [] s d less = absurd (omega arith)
 page_at (x ∷ xs) zero d less = refl
 page_at (x ∷ xs) (suc s) d less = page_at xs s d (omega arith)
@@ -148,10 +148,10 @@ within_pages : (bytes : ℕ) → bytes ≤ 4096 * page_count bytes
 within_pages bytes = omega arith
 
 module _ (p : TProgram) (g : Grants) (k : Config) (has : IsPlaceable p g k) where
-  count_is : length (program_objects p g k) ≡ length p.globals
+  pub count_is : length (program_objects p g k) ≡ length p.globals
   count_is = length-sized (struct_types p.structs) (program_pairs g k) p.globals g.globals has.same
 
-  sections_are : length (program_sections p g k) ≡ length (program_pairs g k)
+  pub sections_are : length (program_sections p g k) ≡ length (program_pairs g k)
   sections_are = length-sections_from k.mechanism 0 0x10000 (program_pairs g k) (program_rooms p g k) (length-rooms_from (length k.compartments) (program_objects p g k) 0 (length (program_pairs g k)))
 
   -- the section of a global, and that its pair is the global's

@@ -6,3 +6,7 @@ pub mod Granules
 pub mod Digits
 pub mod Found
 pub mod Bits
+pub mod Rows
+pub mod Privates
+pub mod Table
+pub mod Keeps

@@ -31,7 +31,7 @@ pages_at m k page (p ∷ ps) [] j d e less = absurd (omega arith)
 pages_at m k page (p ∷ ps) (r ∷ rs) zero d e less = refl
 pages_at m k page (p ∷ ps) (r ∷ rs) (suc j) d e less = pages_at m (k + 1) (page + page_count r.end + 1) ps rs j d e (omega arith)
 
-some_pages : (m : Mechanism) (k page : ℕ) (ps : List Pair) (rs : List Room) (j : ℕ) (d : PlacedSection) → j < length (sections_from m k page ps rs) → 1 ≤ (get_or (sections_from m k page ps rs) j d).pages
+pub some_pages : (m : Mechanism) (k page : ℕ) (ps : List Pair) (rs : List Room) (j : ℕ) (d : PlacedSection) → j < length (sections_from m k page ps rs) → 1 ≤ (get_or (sections_from m k page ps rs) j d).pages
 some_pages m k page [] rs j d less = absurd (omega arith)
 some_pages m k page (p ∷ ps) [] j d less = absurd (omega arith)
 some_pages m k page (p ∷ ps) (r ∷ rs) zero d less = omega arith

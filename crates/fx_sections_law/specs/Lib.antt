@@ -1,4 +1,5 @@
 pub mod Laws
 pub mod Granules
 pub mod Permits
+pub mod Table
 pub mod PlacementLaw

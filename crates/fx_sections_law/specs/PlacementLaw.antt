@@ -11,6 +11,7 @@ use Rattle.fx_vm_pages.specs.declared.entry.PageFlags.{PageFlags}
 use Rattle.fx_sections_law.specs.Laws.{HasDistinctPairs, HasSectionsApart, HasGlobalsInSections, HasGlobalsApart, HasRuntimeFirst, HasRegionsApart}
 use Rattle.fx_sections_law.specs.Granules.{SharesNoGranule}
 use Rattle.fx_sections_law.specs.Permits.{Permits}
+use Rattle.fx_sections_law.specs.Table.{HasOneRowEach}
 
 pub record PlacementLaw (p : TProgram) (g : Grants) (k : Config) (at : Placement) : Type 0 where
   -- The numbers are those of this project's layout.
@@ -26,6 +27,8 @@ pub record PlacementLaw (p : TProgram) (g : Grants) (k : Config) (at : Placement
   pub granules : SharesNoGranule p g k at
   -- Sections and literals lie apart from every other region.
   pub regions : HasRegionsApart p at
+  -- The table has exactly one row for each object, and addresses ascend.
+  pub table : HasOneRowEach p g k at
   -- Under protection keys a compartment's PKRU value permits exactly what the pairs grant.
   pub keys : (scheduler c : ℕ) (flags : PageFlags) (frame : ℕ) → is_keyed k.mechanism ≡ true → is_writable flags ≡ true
       → Permits k.mechanism 0x10000 (program_pairs g k) (program_rooms p g k) scheduler c flags frame

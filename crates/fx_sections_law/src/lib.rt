@@ -7,6 +7,7 @@ ghost use Rattle.fx_sections_law.specs.Laws.{PairsDiffer, SectionsAreApart, Glob
 ghost use Rattle.fx_sections_law.specs.Laws.{GlobalsStandBehindTheRuntime, RegionsAreApart};
 ghost use Rattle.fx_sections_law.specs.Permits.{KeysPermitWhatIsGranted};
 ghost use Rattle.fx_sections_law.specs.PlacementLaw.{PlacementsKeepTheLaw};
+ghost use Rattle.fx_sections_law.specs.Table.{TablesAscend};
 
 /// Every section is of one pair of readers and writers, and no two are of the same.
 pub fn pairs_differ()
@@ -43,6 +44,12 @@ pub fn granules_are_unshared()
 /// A compartment's PKRU value permits exactly what the pairs of the sections grant.
 pub fn keys_permit_what_is_granted()
     ensures { KeysPermitWhatIsGranted }
+{}
+
+/// The table of a placement has exactly one row for each object that has an address for good: the runtime's of
+/// each compartment, and each global. Addresses ascend, and each object ends 16 bytes or more before the next.
+pub fn tables_ascend()
+    ensures { TablesAscend }
 {}
 
 /// A placement keeps all of these laws, which are one: every page of a section belongs to one pair, each object
