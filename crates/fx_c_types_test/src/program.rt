@@ -1,25 +1,58 @@
-//! A program of the input, and what the checker answers to it.
+//! A program of the input.
 
-ghost use Rattle.std.specs.Prelude.{◌<◌, ◌^◌, length, IsTrue};
-ghost use Rattle.fx_c_types.specs.ProgramView.{declarations};
-
-use crate::trees::append_bodies;
-use fx_c_parse::parse;
-use fx_c_types::{SourceFile, TypeError, check};
 use std::alloc::{AllocError, Global};
 
 /// A source text with the number of its library.
 #[derive(Drop)]
-struct Text {
-    library: u8,
-    bytes: Vec<u8>,
+pub struct Text {
+    pub library: u8,
+    pub bytes: Vec<u8>,
 }
 
-/// A program of the input, and whether its bodies are to be shown.
+/// What is asked of a program.
+#[derive(Clone, Copy)]
+pub enum Question {
+    Tokens,
+    Parse,
+    Again,
+    Same,
+    Check { shown: bool },
+}
+
+/// A program of the input, and what is asked of it.
 #[derive(Drop)]
 pub struct Program {
-    shown: bool,
-    texts: Vec<Text>,
+    pub question: Question,
+    pub texts: Vec<Text>,
+}
+
+fn question_of(first: &str) -> Question {
+    let words = first.trim();
+    if words.starts_with("tokens") {
+        return Question::Tokens;
+    }
+    if words.starts_with("parse") {
+        return Question::Parse;
+    }
+    if words.starts_with("again") {
+        return Question::Again;
+    }
+    if words.starts_with("same") {
+        return Question::Same;
+    }
+    let shown = words.starts_with("show");
+    Question::Check { shown }
+}
+
+// N times the text of a line `N TEXT`.
+fn add_repeated(bytes: &mut Vec<u8>, line: &str) -> Result<(), AllocError> {
+    let Some((number, text)) = line.split_once(' ') else {
+        return Ok(());
+    };
+    for _ in 0..number.parse::<u32>().unwrap_or(0) {
+        bytes.extend_from_slice(text.as_bytes())?;
+    }
+    Ok(())
 }
 
 impl Program {
@@ -28,8 +61,8 @@ impl Program {
         let mut texts = Vec::new(alloc);
         let bytes = Vec::new(alloc);
         texts.push(Text { library: 0, bytes })?;
-        let shown = first.contains("show");
-        Ok(Program { shown, texts })
+        let question = question_of(first);
+        Ok(Program { question, texts })
     }
 
     /// One more line of the input.
@@ -40,72 +73,16 @@ impl Program {
             self.texts.push(Text { library, bytes })?;
             return Ok(());
         }
-        if let Some(text) = self.texts.last_mut() {
-            text.bytes.extend_from_slice(line.as_bytes())?;
-            text.bytes.push(b'\n')?;
-        }
-        Ok(())
-    }
-}
-
-// The files' trees, or none where a file is no source text.
-fn files(alloc: Global, texts: &[Text]) -> Result<Option<Vec<SourceFile>>, AllocError> {
-    let mut all = Vec::new(alloc);
-    for text in texts {
-        if text.bytes.len() > 1048576 {
-            return Ok(None);
-        }
-        let Ok(unit) = parse(alloc, &text.bytes) else {
-            return Ok(None);
+        let Some(text) = self.texts.last_mut() else {
+            return Ok(());
         };
-        let library = text.library;
-        all.push(SourceFile { library, unit })?;
-    }
-    Ok(Some(all))
-}
-
-// Whether the files have as few declarations as a check asks for.
-fn are_few(files: &[SourceFile]) -> bool
-    ensures { IsTrue result → length (declarations files.now) < 2 ^ 28 }
-{
-    let mut left: usize = 268435455;
-    for file in files {
-        let count = file.unit.decls.len();
-        if count > left {
-            return false;
-        }
-        left -= count;
-    }
-    true
-}
-
-/// What the checker answers.
-pub fn answer(alloc: Global, program: Program) -> Result<String, AllocError> {
-    let Some(files) = files(alloc, &program.texts)? else {
-        return format!(in alloc; "no source text");
-    };
-    if !are_few(&files) {
-        return format!(in alloc; "too many declarations");
-    }
-    match check(alloc, &files) {
-        Ok(p) => {
-            let main = p.main;
-            let counts = (
-                p.structs.len(),
-                p.globals.len(),
-                p.functions.len(),
-                p.literals.len(),
-            );
-            let (structs, globals, functions, literals) = counts;
-            let mut text = format!(in alloc;
-                "accepted: structs {structs}, globals {globals}, functions {functions}, strings {literals}, main {main}"
-            )?;
-            if program.shown {
-                append_bodies(alloc, &mut text, &p)?;
+        match line.strip_prefix("*") {
+            Some(repeated) => add_repeated(&mut text.bytes, repeated),
+            None => {
+                text.bytes.extend_from_slice(line.as_bytes())?;
+                text.bytes.push(b'\n')?;
+                Ok(())
             }
-            Ok(text)
         }
-        Err(TypeError::Rule { kind, declaration }) => format!(in alloc; "{kind:?} {declaration}"),
-        Err(TypeError::OutOfMemory) => Err(AllocError),
     }
 }

@@ -196,7 +196,11 @@ fn append_statement(alloc: Global, text: &mut String, s: &TStmt) -> Result<(), A
             text.push_str("\n  if ")?;
             append_expression(alloc, text, test)?;
             append_statement(alloc, text, s)?;
-            append_held(alloc, text, other)
+            if other.is_some() {
+                text.push_str("\n  else")?;
+            }
+            append_held(alloc, text, other)?;
+            text.push_str("\n  end of if")
         }
         TStmt::While(test, s) => {
             text.push_str("\n  while ")?;
