@@ -18,7 +18,7 @@ fn hex_digit(digit: u64) -> u8
 }
 
 /// Adds the last digits of a number, so many.
-fn put_digits(line: &mut Vec<u8>, count: usize, number: u64) -> Result<(), AllocError>
+pub fn put_digits(line: &mut Vec<u8>, count: usize, number: u64) -> Result<(), AllocError>
     ensures { OnOk result (line.new.items ≡ line.old.items ++ hex_digits count number) }
 {
     if count == 0 {

@@ -11,7 +11,7 @@ mod tests;
 pub mod words;
 
 pub use ending::{conclude, report_out_of_memory};
-pub use hex::put_hex;
+pub use hex::{put_digits, put_hex};
 pub use lines::{
     config_refusal, file_fault, grants_refusal, parse_refusal, place_refusal, program_status,
     program_words, types_refusal,

@@ -28,10 +28,16 @@ image_words (faults.Field number) = codes "refused: image Field " ++ decimal num
 image_words (faults.KeySequence place) = codes "refused: image KeySequence " ++ decimal place
 image_words faults.OutOfMemory = codes "out of memory"
 
+-- Why there is no image, of the file of this name.
+abbrev pub no_image_words : List ℕ → Unbegun → List ℕ
+no_image_words name (Unread file error) = file_fault name error
+no_image_words name (Refused error) = image_words error
+no_image_words name OutOfMemory = codes "out of memory"
+
 abbrev pub unbegun_words : RunGiven → Unbegun → List ℕ
-unbegun_words given (Unread file error) = file_fault (name_of given file) error
-unbegun_words given (Refused error) = image_words error
-unbegun_words given OutOfMemory = codes "out of memory"
+unbegun_words given (Unread file error) = no_image_words (name_of given file) (Unread file error)
+unbegun_words given (Refused error) = no_image_words given.image (Refused error)
+unbegun_words given OutOfMemory = no_image_words given.image OutOfMemory
 
 abbrev pub unbegun_status : Unbegun → ℕ
 unbegun_status (Unread file error) = 4

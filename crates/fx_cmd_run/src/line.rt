@@ -3,7 +3,7 @@
 ghost use Rattle.std.specs.Prelude.{◌≡◌, ◌++◌, ◌∷◌, [], IfOk, codes, string_bytes};
 ghost use Rattle.std.specs.Fmt.{decimal};
 ghost use Rattle.fx_cmd_base.specs.Views.{run_given};
-ghost use Rattle.fx_cmd_run.specs.Lines.{name_of, image_words, unbegun_words, unbegun_status, came_status, came_line};
+ghost use Rattle.fx_cmd_run.specs.Lines.{name_of, image_words, no_image_words, unbegun_words, unbegun_status, came_status, came_line};
 
 use crate::command::Finished;
 use crate::load::{Unbegun, Which};
@@ -40,14 +40,24 @@ fn image_words(alloc: Global, error: ImageError) -> Result<String, AllocError>
     }
 }
 
+/// Why there is no image, of the file of this name.
+pub fn no_image_words(alloc: Global, name: &str, why: Unbegun) -> Result<String, AllocError>
+    ensures { IfOk result (λ s. string_bytes s ≡ no_image_words name.now why) }
+{
+    match why {
+        Unbegun::Unread { error, .. } => file_fault(alloc, name, error),
+        Unbegun::Refused(error) => image_words(alloc, error),
+        Unbegun::OutOfMemory => String::from_str(alloc, "out of memory"),
+    }
+}
+
 /// The words of a run that wasn't begun.
 fn unbegun_words(alloc: Global, words: &RunWords<'_>, why: Unbegun) -> Result<String, AllocError>
     ensures { IfOk result (λ s. string_bytes s ≡ unbegun_words (run_given words.now) why) }
 {
     match why {
-        Unbegun::Unread { which, error } => file_fault(alloc, name_of(words, which), error),
-        Unbegun::Refused(error) => image_words(alloc, error),
-        Unbegun::OutOfMemory => String::from_str(alloc, "out of memory"),
+        Unbegun::Unread { which, .. } => no_image_words(alloc, name_of(words, which), why),
+        Unbegun::Refused(_) | Unbegun::OutOfMemory => no_image_words(alloc, words.image, why),
     }
 }
 
@@ -60,8 +70,8 @@ fn unbegun_line(alloc: Global, words: &RunWords<'_>, why: Unbegun) -> Result<Vec
     Ok(line.into_bytes())
 }
 
-/// The status of a run that wasn't begun.
-fn unbegun_status(why: Unbegun) -> u8
+/// The status of a run that wasn't begun, or where there is no image.
+pub fn unbegun_status(why: Unbegun) -> u8
     ensures { result ≡ unbegun_status why }
 {
     match why {
