@@ -1,0 +1,4 @@
+pub mod Pending
+pub mod Functions
+pub mod Ranges
+pub mod Parts
