@@ -28,8 +28,8 @@ use Rattle.fx_linker.specs.Data.{mechanism_number}
 use Rattle.fx_linker.specs.Places.{pieces_size}
 use Rattle.fx_linker.specs.Linked.{home_of, parts_layout, outer_reach}
 
--- A configuration: from 1 to 8 compartments, under ept to 16, of different names, one of which is the
--- scheduler's; stacks of 1 to 64 pages.
+-- A configuration: from 1 to 8 compartments, under ept to 16, of different names, one of which is
+-- the scheduler's; stacks of 1 to 64 pages.
 pub record IsSound (k : Config) : Type 0 where
   pub count : IsTrue (is_count (mechanism_number k.mechanism) (length k.compartments))
   pub least : 1 ≤ k.stack_pages
@@ -38,14 +38,15 @@ pub record IsSound (k : Config) : Type 0 where
   pub names : IsTrue (list_all (λ (c : Compartment). is_c_name c.name) k.compartments)
   pub distinct : IsTrue (all_differ bytes_eq (map (λ (c : Compartment). c.name) k.compartments))
 
--- Parts with a range for each compartment, whose `main` is in one of them, and whose runtime's places
--- are numbers of its pieces. There is one start, and under ept one for each compartment.
+-- Parts with a range for each compartment, whose `main` is in one of them, and whose runtime's
+-- places are numbers of its pieces. There is one start, and under ept one for each compartment.
 pub record IsMade (parts : Parts) (p : TProgram) (k : Config) : Type 0 where
   pub ranges : length parts.ranges ≡ length k.compartments
   pub home : home_of parts p < length k.compartments
   pub abort : parts.map.abort < length parts.runtime
   pub starts : All (λ (piece : ℕ). piece < length parts.runtime) parts.map.starts
-  pub vcpus : length parts.map.starts ≡ (if mechanism_number k.mechanism == 3 then length k.compartments else 1)
+  pub vcpus : length parts.map.starts
+      ≡ (if mechanism_number k.mechanism == 3 then length k.compartments else 1)
 
 -- parts whose code has no more bytes than an image may have
 abbrev pub IsShort : Parts → Type 0
@@ -54,7 +55,8 @@ IsShort parts = (parts_layout parts).size ≤ 1048576
 -- pairs of a set of readers of these compartments with a set of writers inside it that isn't empty
 abbrev pub ArePairs : ℕ → List Pair → Type 0
 ArePairs n pairs =
-    All (λ (q : Pair). (0 < q.writers) × (bit_and q.writers q.readers ≡ q.writers) × (q.readers < 2 ^ n)) pairs
+    All (λ (q : Pair). (0 < q.writers) × (bit_and q.writers q.readers ≡ q.writers)
+    × (q.readers < 2 ^ n)) pairs
 
 -- ---- sequences
 

@@ -5,8 +5,11 @@
 //! functions have empty bodies; their contracts are the laws.
 #![tactic(auto)]
 
-ghost use Rattle.fx_linker_law.specs.Laws.{HeadsAreMet, CompartmentsAreMet, CodeIsMet, AbortsAreMet, OwnersAreMet, StartsAreMet, SectionsAreMet, LiteralsAreMet, StubsAreMet};
-ghost use Rattle.fx_linker_law.specs.Laws.{SequencesAreMet, EntriesAreMet, ObjectsAreMet, LinkedAreImages};
+ghost use Rattle.fx_linker_law.specs.Laws.{HeadsAreMet, CompartmentsAreMet, CodeIsMet};
+ghost use Rattle.fx_linker_law.specs.Laws.{AbortsAreMet, OwnersAreMet, StartsAreMet};
+ghost use Rattle.fx_linker_law.specs.Laws.{SectionsAreMet, LiteralsAreMet, StubsAreMet};
+ghost use Rattle.fx_linker_law.specs.Laws.{SequencesAreMet, EntriesAreMet};
+ghost use Rattle.fx_linker_law.specs.Laws.{ObjectsAreMet, LinkedAreImages};
 
 /// The fields of one number: version, mechanism, count, stacks, threads, scheduler and home.
 pub fn heads_are_met()
@@ -38,8 +41,8 @@ pub fn starts_are_met()
     ensures { StartsAreMet }
 {}
 
-/// The sections stand one behind the other with a page between them, the compartments' own first, each
-/// with its key; and each compartment has the rights that they give it.
+/// The sections stand one behind the other with a page between them, the compartments' own first,
+/// each with its key; and each compartment has the rights that they give it.
 pub fn sections_are_met()
     ensures { SectionsAreMet }
 {}
@@ -64,8 +67,8 @@ pub fn entries_are_met()
     ensures { EntriesAreMet }
 {}
 
-/// The objects ascend, each in its section's pages and 16 bytes or more past the one before it, with
-/// a name of its own and no more initial bytes than it has.
+/// The objects ascend, each in its section's pages and 16 bytes or more past the one before it,
+/// with a name of its own and no more initial bytes than it has.
 pub fn objects_are_met()
     ensures { ObjectsAreMet }
 {}
