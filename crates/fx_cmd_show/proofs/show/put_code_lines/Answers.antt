@@ -1,0 +1,8 @@
+use Rattle.std.proofs.Common.{rules, append_assoc}
+use Rattle.std.proofs.lemmas.Result.{IfOk-equal}
+use Rattle.fx_cmd_show.specs.Text.{code_lines}
+use Rattle.fx_cmd_show.proofs.show.put_code_lines.Goals as goal
+
+pub returns : goal.returns
+unfolding code_lines
+returns c = search (rules, IfOk-equal, append_assoc)
