@@ -1,0 +1,9 @@
+pub mod Memory
+pub mod Silent
+pub mod Kept
+pub mod Static
+pub mod Apart
+pub mod Pairs
+pub mod Standing
+pub mod Resolved
+pub mod Ends
