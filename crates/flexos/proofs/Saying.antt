@@ -5,37 +5,55 @@ use Rattle.fx_cmd_base.specs.Streams.{Streams}
 use Rattle.fx_cmd_base.specs.Ends.{ErrorStream}
 use Rattle.fx_cmd_base.specs.Words.{RunGiven, ExecGiven, run_words, exec_words}
 use Rattle.fx_cmd_single.specs.Words.{SingleGiven, single_words}
-use Rattle.flexos.specs.Words.{Said, Exec, Run, Place, Single, Usage, place_words, first_said, said_by}
+use Rattle.flexos.specs.Words.{Said, Exec, Run, Single, Place, Show, Migrate, Usage, MigrateGiven, place_words, show_words, migrate_words, said_or, text_said, image_said, source_said, said_by}
 use Rattle.flexos.specs.Table.{Performs, CommandTable, PerformsWell, Done}
 
+-- the command that is given, or what the words say else
+given_said : {A : Type 0} (command : A → Said) (given : A) (words : Option A) (other : Said) → Some given ≡ words → command given ≡ said_or command words other
+given_said command given words other is = ap (λ w. said_or command w other) is
+
+else_said : {A : Type 0} (command : A → Said) (said : Said) (words : Option A) (other : Said) → None ≡ words → said ≡ other → said ≡ said_or command words other
+else_said command said words other none is = is ∙ ap (λ w. said_or command w other) none
+
 module _ (words : List (List ℕ)) where
+  pub show_said : (image : List ℕ) → Some image ≡ show_words words → Show image ≡ image_said words
+  show_said image show = given_said Show image (show_words words) (said_or Migrate (migrate_words words) (text_said words)) show
+
+  pub migrate_said : (given : MigrateGiven) → None ≡ show_words words → Some given ≡ migrate_words words → Migrate given ≡ image_said words
+  migrate_said given show migrate =
+      else_said Show (Migrate given) (show_words words) (said_or Migrate (migrate_words words) (text_said words)) show
+      (given_said Migrate given (migrate_words words) (text_said words) migrate)
+
+  pub text_command_said : (said : Said) → None ≡ show_words words → None ≡ migrate_words words → said ≡ text_said words → said ≡ image_said words
+  text_command_said said show migrate is =
+      else_said Show said (show_words words) (said_or Migrate (migrate_words words) (text_said words)) show
+      (else_said Migrate said (migrate_words words) (text_said words) migrate is)
+
+  pub single_said : (given : SingleGiven) → Some given ≡ single_words words → Single given ≡ source_said words
+  single_said given single = given_said Single given (single_words words) (said_or Place (place_words words) (image_said words)) single
+
+  pub place_said : (config : List ℕ) → None ≡ single_words words → Some config ≡ place_words words → Place config ≡ source_said words
+  place_said config single place =
+      else_said Single (Place config) (single_words words) (said_or Place (place_words words) (image_said words)) single
+      (given_said Place config (place_words words) (image_said words) place)
+
+  pub image_command_said : (said : Said) → None ≡ single_words words → None ≡ place_words words → said ≡ image_said words → said ≡ source_said words
+  image_command_said said single place is =
+      else_said Single said (single_words words) (said_or Place (place_words words) (image_said words)) single
+      (else_said Place said (place_words words) (image_said words) place is)
+
   pub exec_said : (given : ExecGiven) → Some given ≡ exec_words words → Exec given ≡ said_by words
-  exec_said given exec = ap (λ e. first_said e (run_words words) (place_words words) (single_words words)) exec
+  exec_said given exec = given_said Exec given (exec_words words) (said_or Run (run_words words) (source_said words)) exec
 
   pub run_said : (given : RunGiven) → None ≡ exec_words words → Some given ≡ run_words words → Run given ≡ said_by words
   run_said given exec run =
-      ap (λ r. first_said None r (place_words words) (single_words words)) run
-      ∙ ap (λ e. first_said e (run_words words) (place_words words) (single_words words)) exec
+      else_said Exec (Run given) (exec_words words) (said_or Run (run_words words) (source_said words)) exec
+      (given_said Run given (run_words words) (source_said words) run)
 
-  pub place_said : (config : List ℕ) → None ≡ exec_words words → None ≡ run_words words → Some config ≡ place_words words → Place config ≡ said_by words
-  place_said config exec run place =
-      ap (λ p. first_said None None p (single_words words)) place
-      ∙ ap (λ r. first_said None r (place_words words) (single_words words)) run
-      ∙ ap (λ e. first_said e (run_words words) (place_words words) (single_words words)) exec
-
-  pub single_said : (given : SingleGiven) → None ≡ exec_words words → None ≡ run_words words → None ≡ place_words words → Some given ≡ single_words words → Single given ≡ said_by words
-  single_said given exec run place single =
-      ap (λ s. first_said None None None s) single
-      ∙ ap (λ p. first_said None None p (single_words words)) place
-      ∙ ap (λ r. first_said None r (place_words words) (single_words words)) run
-      ∙ ap (λ e. first_said e (run_words words) (place_words words) (single_words words)) exec
-
-  pub none_said : None ≡ exec_words words → None ≡ run_words words → None ≡ place_words words → None ≡ single_words words → Usage ≡ said_by words
-  none_said exec run place single =
-      ap (λ s. first_said None None None s) single
-      ∙ ap (λ p. first_said None None p (single_words words)) place
-      ∙ ap (λ r. first_said None r (place_words words) (single_words words)) run
-      ∙ ap (λ e. first_said e (run_words words) (place_words words) (single_words words)) exec
+  pub source_command_said : (said : Said) → None ≡ exec_words words → None ≡ run_words words → said ≡ source_said words → said ≡ said_by words
+  source_command_said said exec run is =
+      else_said Exec said (exec_words words) (said_or Run (run_words words) (source_said words)) exec
+      (else_said Run said (run_words words) (source_said words) run is)
 
 -- what a command comes to is what the words that say it come to
 module _ (said : Said) (words : List (List ℕ)) (boxes : List (Option Meaning)) (before after : Streams) (err : ErrorStream) (result : ℕ) (is : said ≡ said_by words) where

@@ -1,4 +1,5 @@
 pub mod Words
+pub mod Texts
 pub mod Runs
 pub mod Places
 pub mod Singles

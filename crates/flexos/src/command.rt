@@ -1,7 +1,7 @@
 //! The words of a command.
 
 ghost use Rattle.std.specs.Prelude.{◌≡◌, map, option_map, string_bytes};
-ghost use Rattle.flexos.specs.Words.{place_words, said_by, said_of};
+ghost use Rattle.flexos.specs.Words.{named_words, migrate_words, migrate_given, is_help, text_said, image_said, source_said, said_by, said_of};
 
 use fx_cmd_base::words::{ExecWords, RunWords, is_file_name};
 use fx_cmd_single::words::{SingleWords, single_of};
@@ -12,36 +12,130 @@ pub struct Place<'a> {
     pub config: &'a str,
 }
 
+/// The command `show IMAGE`: puts the text of the image.
+#[derive(Clone, Copy, Debug)]
+pub struct Show<'a> {
+    pub image: &'a str,
+}
+
+/// The command `migrate OLD NEW`: writes the image OLD under NEW in today's version.
+#[derive(Clone, Copy, Debug)]
+pub struct Migrate<'a> {
+    pub old: &'a str,
+    pub new: &'a str,
+}
+
 /// A command.
 #[derive(Clone, Copy, Debug)]
 pub enum Command<'a> {
     Exec(ExecWords<'a>),
     Run(RunWords<'a>),
-    Place(Place<'a>),
     Single(SingleWords<'a>),
+    Place(Place<'a>),
+    Show(Show<'a>),
+    Migrate(Migrate<'a>),
+    Help,
+    Version,
 }
 
-/// The command `place` that the words are.
-fn place_of(words: &[String]) -> Option<Place<'_>>
-    ensures { option_map (λ place. place.config.now) result ≡ place_words (map string_bytes words.now) }
+/// The name in a command of one file's name.
+fn named<'a>(command: &str, words: &'a [String]) -> Option<&'a str>
+    ensures { option_map (λ name. name.now) result ≡ named_words command.now
+        (map string_bytes words.now) }
 {
     match words {
         [] => None,
         [_] => None,
-        [command, config] => {
-            if command.as_str() != "place" || !is_file_name(config.as_str()) {
+        [word, name] => {
+            if word.as_str() != command || !is_file_name(name.as_str()) {
                 return None;
             }
-            Some(Place {
-                config: config.as_str(),
+            Some(name.as_str())
+        }
+        _ => None,
+    }
+}
+
+/// The command `migrate` that the words are.
+fn migrate_of(words: &[String]) -> Option<Migrate<'_>>
+    ensures { option_map migrate_given result ≡ migrate_words (map string_bytes words.now) }
+{
+    match words {
+        [] => None,
+        [_] => None,
+        [_, _] => None,
+        [word, old, new] => {
+            if word.as_str() != "migrate"
+                || !is_file_name(old.as_str())
+                || !is_file_name(new.as_str())
+            {
+                return None;
+            }
+            Some(Migrate {
+                old: old.as_str(),
+                new: new.as_str(),
             })
         }
         _ => None,
     }
 }
 
+/// Whether a word asks for the help.
+fn is_help(word: &str) -> bool
+    ensures { result ≡ is_help word.now }
+{
+    word == "help" || word == "--help" || word == "-h"
+}
+
+/// The command of one word that the words are.
+fn text_command(words: &[String]) -> Option<Command<'_>>
+    ensures { said_of result ≡ text_said (map string_bytes words.now) }
+{
+    match words {
+        [] => None,
+        [word] => {
+            if is_help(word.as_str()) {
+                return Some(Command::Help);
+            }
+            if word.as_str() == "--version" {
+                return Some(Command::Version);
+            }
+            None
+        }
+        _ => None,
+    }
+}
+
+/// The command on images, or of one word, that the words are.
+#[tactic(auto, using(crate::proofs::Saying::show_said, crate::proofs::Saying::migrate_said, crate::proofs::Saying::text_command_said))]
+fn image_command(words: &[String]) -> Option<Command<'_>>
+    ensures { said_of result ≡ image_said (map string_bytes words.now) }
+{
+    match named("show", words) {
+        Some(image) => Some(Command::Show(Show { image })),
+        None => match migrate_of(words) {
+            Some(migrate) => Some(Command::Migrate(migrate)),
+            None => text_command(words),
+        },
+    }
+}
+
+/// The command on sources that builds no image, or a later one, that the words are.
+#[tactic(auto, using(crate::proofs::Saying::single_said, crate::proofs::Saying::place_said, crate::proofs::Saying::image_command_said))]
+fn source_command(words: &[String]) -> Option<Command<'_>>
+    ensures { said_of result ≡ source_said (map string_bytes words.now) }
+{
+    match single_of(words) {
+        Some(single) => Some(Command::Single(single)),
+        None => match named("place", words) {
+            Some(config) => Some(Command::Place(Place { config })),
+            None => image_command(words),
+        },
+    }
+}
+
 /// The command that the words are.
-#[tactic(auto, using(crate::proofs::Saying::exec_said, crate::proofs::Saying::run_said, crate::proofs::Saying::place_said, crate::proofs::Saying::single_said, crate::proofs::Saying::none_said))]
+#[tactic(auto, using(crate::proofs::Saying::exec_said, crate::proofs::Saying::run_said, crate::proofs::Saying::source_command_said))]
 pub fn command_of(words: &[String]) -> Option<Command<'_>>
     ensures { said_of result ≡ said_by (map string_bytes words.now) }
 {
@@ -49,13 +143,7 @@ pub fn command_of(words: &[String]) -> Option<Command<'_>>
         Some(exec) => Some(Command::Exec(exec)),
         None => match RunWords::of(words) {
             Some(run) => Some(Command::Run(run)),
-            None => match place_of(words) {
-                Some(place) => Some(Command::Place(place)),
-                None => match single_of(words) {
-                    Some(single) => Some(Command::Single(single)),
-                    None => None,
-                },
-            },
+            None => source_command(words),
         },
     }
 }

@@ -5,6 +5,7 @@ mod adapters;
 mod command;
 #[cfg(test)]
 mod tests;
+mod texts;
 mod top;
 
 use adapters::{RealFiles, StdSink, StdSource};

@@ -1,5 +1,6 @@
 //! The top call over files and streams in memory: what each command answers, writes and prints.
 
+use crate::texts::help;
 use crate::top::flexos;
 use fx_base::{MemFiles, MemSink, MemSource};
 use fx_cmd_exec::inputs::EARLY_DOCUMENT;
@@ -195,6 +196,44 @@ fn a_program_runs_in_one_compartment(rt: HostRuntime) -> Result<(), Fail> {
 }
 
 #[test]
+fn images_are_shown_and_migrated(rt: HostRuntime) -> Result<(), Fail> {
+    let alloc = rt.alloc();
+    let Left { files, .. } = exec(alloc, b"void main() { }")?;
+    let left = over(alloc, "show out.img", files, 4000)?;
+    assert_eq!(rt; left.status, 0);
+    assert!(rt; left.err.bytes().is_empty());
+    let head = b"FlexOS image, version 2\nmechanism call, ";
+    assert!(rt; left.out.bytes().starts_with(head));
+    let left = over(alloc, "migrate out.img new.img", left.files, 0)?;
+    assert_eq!(rt; left.status, 0);
+    assert!(rt; left.err.bytes().is_empty());
+    assert_eq!(rt; left.files.get("new.img"), left.files.get("out.img"));
+    let left = over(alloc, "migrate a.c b.img", left.files, 0)?;
+    assert_eq!(rt; left.status, 3);
+    assert_eq!(rt; left.err.bytes(), b"refused: image Magic\n".as_slice());
+    assert!(rt; left.files.get("b.img").is_none());
+    Ok(())
+}
+
+#[test]
+fn texts_are_put(rt: HostRuntime) -> Result<(), Fail> {
+    let cases: [(&str, u64, u8, &str, &str); 5] = [
+        ("help", 2000, 0, help(), ""),
+        ("--help", 2000, 0, help(), ""),
+        ("-h", 2000, 0, help(), ""),
+        ("--version", 2000, 0, "flexos 0.1\n", ""),
+        ("--version", 6, 5, "flexos", "write fault\n"),
+    ];
+    for (word, capacity, status, output, line) in cases {
+        let left = command(rt.alloc(), word, &[], 0, capacity)?;
+        assert_eq!(rt; left.status, status, "{word}");
+        assert_eq!(rt; left.out.bytes(), output.as_bytes(), "{word}");
+        assert_eq!(rt; left.err.bytes(), line.as_bytes(), "{word}");
+    }
+    Ok(())
+}
+
+#[test]
 fn other_words_are_usage(rt: HostRuntime) -> Result<(), Fail> {
     let cases = [
         "",
@@ -214,6 +253,15 @@ fn other_words_are_usage(rt: HostRuntime) -> Result<(), Fail> {
         "place conf.toml more",
         "single",
         "single conf.toml --steps",
+        "show",
+        "show -x",
+        "show out.img --code",
+        "migrate out.img",
+        "migrate out.img -x",
+        "migrate out.img new.img more",
+        "help more",
+        "--version more",
+        "-help",
     ];
     for text in cases {
         let files = [("conf.toml", EARLY_DOCUMENT.as_bytes())];
