@@ -24,8 +24,8 @@ import subprocess
 import sys
 from collections import Counter
 
-from second_meaning import (LONG, Coder, End, Meaning, Run, World, arithmetic, cases_of, compared, difference, is_int,
-                            is_pointer, load, moved, random_case, reach, store, undefined, wrapped)
+from second_meaning import (LONG, Coder, End, Meaning, Run, World, arithmetic, cases_of, compared, copy_cell, difference, is_int,
+                            is_pointer, load, moved, random_case, store, undefined, wrapped)
 from second_reader import PAGE, VOID, Program, parsed
 
 BUDGET = 60_000
@@ -397,14 +397,7 @@ class CodeRun(Run):
         for i in range(size):
             if i:
                 self.charge(1)
-            where, at = reach(None if source is None else (source[0], source[1] + i), 1, False)
-            byte, part = where.bytes[at], where.parts.get(at)
-            self.charge(1)
-            where, at = reach(None if target is None else (target[0], target[1] + i), 1, True)
-            where.bytes[at] = byte
-            where.parts.pop(at, None)
-            if part is not None:
-                where.parts[at] = part
+            copy_cell(source, target, i, self.charge)
 
 
 class Told(World):

@@ -133,6 +133,18 @@ def store(pointer, ty, value):
 # ---------------------------------------------------------------------------
 # Numbers
 
+def copy_cell(source, target, i, charge):
+    """Copies cell i of what a pointer leads to; the read costs nothing here, the write 1."""
+    where, at = reach(None if source is None else (source[0], source[1] + i), 1, False)
+    byte, part = where.bytes[at], where.parts.get(at)
+    charge(1)
+    where, at = reach(None if target is None else (target[0], target[1] + i), 1, True)
+    where.bytes[at] = byte
+    where.parts.pop(at, None)
+    if part is not None:
+        where.parts[at] = part
+
+
 def is_signed(ty):
     return not ty[1].startswith("u")
 
@@ -742,14 +754,7 @@ class Run:
         target = self.operands.pop()
         for i in range(size):
             self.charge(1)
-            where, at = reach(None if source is None else (source[0], source[1] + i), 1, False)
-            byte, part = where.bytes[at], where.parts.get(at)
-            self.charge(1)
-            where, at = reach(None if target is None else (target[0], target[1] + i), 1, True)
-            where.bytes[at] = byte
-            where.parts.pop(at, None)
-            if part is not None:
-                where.parts[at] = part
+            copy_cell(source, target, i, self.charge)
 
     def spawn(self, function, argument):
         if len(self.threads) == THREADS:

@@ -3,15 +3,12 @@
 a reader of its own, or compares the two.
 
 Usage: second_show.py IMAGE     writes the text of the image
-       second_show.py --stored  compares the stored answers of fx_cmd_run_test to `show` and
-                                `migrate` with the reader's, and prints how many differ
        second_show.py           shows and migrates each of the images that flip_image.py makes by
                                 hand, for each mechanism and version, by `flexos` and by the reader,
                                 and prints how many answers differ
 
 For the last form build flexos first (`rt run` in its folder).
 """
-import itertools
 import pathlib
 import struct
 import subprocess
@@ -20,7 +17,6 @@ import tempfile
 
 ROOT = pathlib.Path(__file__).resolve().parent.parent
 PROGRAM = ROOT / "crates" / "flexos" / "out" / "flexos"
-STORED = ROOT / "crates" / "fx_cmd_run_test"
 MECHANISMS = ["call", "light", "full", "ept"]
 CODE, LITERALS = 0x400000, 0x600000
 
@@ -147,99 +143,6 @@ def answered(words):
         return ran.returncode, new.read_bytes() if new.exists() else ran.stdout.decode()
 
 
-def bytes_of(words):
-    """The bytes of words of hexadecimal digits, each perhaps with how many times it stands."""
-    parts = [word.partition("*") for word in words]
-    return b"".join(bytes.fromhex(digits) * int(times or 1) for digits, _, times in parts)
-
-
-def words_of(data):
-    runs = [(byte, len(list(run))) for byte, run in itertools.groupby(data)]
-    return " ".join(f"{byte:02x}" + (f"*{times}" if times > 1 else "") for byte, times in runs)
-
-
-class Stored:
-    """The commands of the stored run, with what stands before the next one."""
-
-    def __init__(self):
-        self.image = self.file = b""
-        self.rest()
-
-    def rest(self):
-        self.room, self.failing = 64, {}
-
-    def set(self, name, words):
-        if name == "image":
-            self.image = self.file = bytes_of(words)
-        elif name == "put":
-            at, part = int(words[0]), bytes_of(words[1:])
-            self.file = self.image[:at] + part + self.image[at + len(part):]
-        elif name == "room":
-            self.room = int(words[0])
-        elif name == "fail":
-            self.failing[words[0]] = int(words[1])
-
-    def refusal(self, name):
-        """The status and the line where there is no image under the name."""
-        import flip_image
-        if self.failing.get("files") == 1:
-            return 4, f"file fault: {name}"
-        if name != "a.img":
-            return 4, f"no file: {name}"
-        if len(self.file) > 2 ** 24:
-            return 4, f"file too long: {name}"
-        answer = flip_image.answer(self.file)
-        return None if answer == "image" else (3, f"refused: image {answer}")
-
-    def show(self, name):
-        refusal = self.refusal(name)
-        if refusal:
-            return *refusal, ""
-        text = text_of(self.file)
-        return (5, "write fault", text[:self.room]) if len(text) > self.room else (0, "", text)
-
-    def migrate(self, old, new):
-        refusal = self.refusal(old)
-        held = words_of(self.file) if new == "a.img" else ""
-        if refusal:
-            return *refusal, held
-        if self.failing.get("files") == 2:
-            return 4, f"file fault: {new}", held
-        return 0, "", words_of(migrated(self.file))
-
-    def answer(self, name, words):
-        status, line, wrote = self.show(*words) if name == "show" else self.migrate(*words)
-        if line and self.failing.get("err") == 1:
-            # The line of a write fault is tried once, and behind it no other.
-            status, line = 5, "" if status == 5 else "write fault"
-        return f"{status} {line} | {wrote}" if wrote else f"{status} {line}"
-
-
-def compare_stored():
-    """Compares the stored answers with the reader's; an answer to `run` has one line."""
-    stored, given = Stored(), (STORED / "stdout").read_text()
-    tried = differ = 0
-    for line in (STORED / "stdin").read_text().splitlines():
-        name, *words = line.partition("#")[0].split() or [""]
-        if name == "run":
-            given = given.partition("\n")[2]
-        elif name in ("show", "migrate"):
-            wanted = stored.answer(name, words) + "\n"
-            tried += 1
-            if given.startswith(wanted):
-                given = given[len(wanted):]
-            else:
-                differ += 1
-                print(f"different: {line[:60]}: {given[:60]!r}, wanted {wanted[:60]!r}")
-                given = given.partition("\n")[2]
-        else:
-            stored.set(name, words)
-        if name in ("run", "show", "migrate"):
-            stored.rest()
-    print(f"{tried} stored answers, {differ} differ, {len(given)} bytes left")
-    return differ or len(given)
-
-
 def compare_images():
     """Shows and migrates the images made by hand."""
     import flip_image
@@ -255,8 +158,6 @@ def compare_images():
 
 
 def main():
-    if sys.argv[1:] == ["--stored"]:
-        return 1 if compare_stored() else 0
     if len(sys.argv) > 1:
         sys.stdout.write(text_of(pathlib.Path(sys.argv[1]).read_bytes()))
         return 0
