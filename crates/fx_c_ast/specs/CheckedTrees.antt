@@ -5,8 +5,15 @@ use Rattle.fx_c_ast.specs.declared.operator.Unop.{Unop}
 use Rattle.fx_c_ast.specs.declared.operator.Binop.{Binop}
 use Rattle.fx_c_ast.specs.declared.checked.Ty.{Ty, Void, Int, Struct, Ptr', Array'}
 use Rattle.fx_c_ast.specs.declared.checked.TExpr.{TExpr}
-use Rattle.fx_c_ast.specs.declared.checked.TKind.{TKind, Number, Literal, Global, Local, Un', Bin', Cast', Convert', Size, Index', Member', Arrow', Call', Gate', Getc, Putc', DevLoad, DevStore', Spawn', Switch', Me, Row_of-TExpr, end_of-TExpr, more_of-TExpr}
-use Rattle.fx_c_ast.specs.declared.checked.TStmt.{TStmt, Empty, Block', Eval, Assign, If', While', For', Break, Continue, Return, Row_of-TStmt, end_of-TStmt, more_of-TStmt, Held-TStmt-If-2, None', Some'}
+use Rattle.fx_c_ast.specs.declared.checked.TKind.{TKind, Number, Literal, Global, Local, Un', Bin'}
+use Rattle.fx_c_ast.specs.declared.checked.TKind.{Cast', Convert', Size, Index', Member', Arrow'}
+use Rattle.fx_c_ast.specs.declared.checked.TKind.{Call', Gate', Getc, Putc', DevLoad, DevStore'}
+use Rattle.fx_c_ast.specs.declared.checked.TKind.{Spawn', Switch', Me, Row_of-TExpr, end_of-TExpr}
+use Rattle.fx_c_ast.specs.declared.checked.TKind.{more_of-TExpr}
+use Rattle.fx_c_ast.specs.declared.checked.TStmt.{TStmt, Empty, Block', Eval, Assign, If', While'}
+use Rattle.fx_c_ast.specs.declared.checked.TStmt.{For', Break, Continue, Return, Row_of-TStmt}
+use Rattle.fx_c_ast.specs.declared.checked.TStmt.{end_of-TStmt, more_of-TStmt, Held-TStmt-If-2}
+use Rattle.fx_c_ast.specs.declared.checked.TStmt.{None', Some'}
 use Rattle.fx_c_ast.specs.declared.checked.TStmt as stmt
 use Rattle.fx_c_ast.specs.declared.checked.TMember.{TMember}
 use Rattle.fx_c_ast.specs.declared.checked.TLocal.{TLocal}

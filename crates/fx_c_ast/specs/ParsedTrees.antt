@@ -4,8 +4,14 @@ use Rattle.fx_c_ast.specs.declared.operator.IntType.{IntType}
 use Rattle.fx_c_ast.specs.declared.operator.Unop.{Unop}
 use Rattle.fx_c_ast.specs.declared.operator.Binop.{Binop}
 use Rattle.fx_c_ast.specs.declared.parsed.TypeName.{TypeName, Void, Int, Struct, Ptr', Array'}
-use Rattle.fx_c_ast.specs.declared.parsed.Expr.{Expr, Number, Text, Var, Un', Bin', Cast', Size, Index', Member', Arrow', Call', Gate', Getc, Putc', DevLoad, DevStore', Spawn', Switch', Me, Row_of-Expr, end_of-Expr, more_of-Expr}
-use Rattle.fx_c_ast.specs.declared.parsed.Stmt.{Stmt, Empty, Block', Local, Eval, Assign, If', While', For', Break, Continue, Return, Row_of-Stmt, end_of-Stmt, more_of-Stmt, Held-Stmt-If-2, None', Some'}
+use Rattle.fx_c_ast.specs.declared.parsed.Expr.{Expr, Number, Text, Var, Un', Bin', Cast', Size}
+use Rattle.fx_c_ast.specs.declared.parsed.Expr.{Index', Member', Arrow', Call', Gate', Getc, Putc'}
+use Rattle.fx_c_ast.specs.declared.parsed.Expr.{DevLoad, DevStore', Spawn', Switch', Me}
+use Rattle.fx_c_ast.specs.declared.parsed.Expr.{Row_of-Expr, end_of-Expr, more_of-Expr}
+use Rattle.fx_c_ast.specs.declared.parsed.Stmt.{Stmt, Empty, Block', Local, Eval, Assign, If'}
+use Rattle.fx_c_ast.specs.declared.parsed.Stmt.{While', For', Break, Continue, Return, Row_of-Stmt}
+use Rattle.fx_c_ast.specs.declared.parsed.Stmt.{end_of-Stmt, more_of-Stmt, Held-Stmt-If-2, None'}
+use Rattle.fx_c_ast.specs.declared.parsed.Stmt.{Some'}
 use Rattle.fx_c_ast.specs.declared.parsed.Grant.{Grant}
 use Rattle.fx_c_ast.specs.declared.parsed.Init.{Init}
 use Rattle.fx_c_ast.specs.declared.parsed.Param.{Param}

@@ -3,7 +3,14 @@ use Rattle.std.specs.Prelude.{ℕ, ◌+◌, ◌*◌, max, List, [], ◌∷◌, O
 use Rattle.fx_c_ast.specs.declared.operator.Binop.{Binop}
 use Rattle.fx_c_ast.specs.declared.operator.Binop.TheVariants.{Land, Lor}
 use Rattle.fx_c_ast.specs.declared.checked.TFunction.{TFunction}
-use Rattle.fx_c_ast.specs.CheckedTrees.{TyTree, TExprTree, ENumber, ELiteral, EGlobal, ELocal, EUn, EBin, ECast, EConvert, ESize, EIndex, EMember, EArrow, ECall, EGate, EGetc, EPutc, EDevLoad, EDevStore, ESpawn, ESwitch, EMe, TExprTrees, NoTExprs, MoreTExprs, TStmtTree, SEmpty, SBlock, SLocal, SEval, SAssign, SIf, SWhile, SFor, SBreak, SContinue, SReturn, TStmtTrees, NoTStmts, MoreTStmts, MaybeTStmt, NoTStmt, OneTStmt, tstmt_trees, local_types}
+use Rattle.fx_c_ast.specs.CheckedTrees.{TyTree, TExprTree, ENumber, ELiteral, EGlobal, ELocal, EUn}
+use Rattle.fx_c_ast.specs.CheckedTrees.{EBin, ECast, EConvert, ESize, EIndex, EMember, EArrow}
+use Rattle.fx_c_ast.specs.CheckedTrees.{ECall, EGate, EGetc, EPutc, EDevLoad, EDevStore, ESpawn}
+use Rattle.fx_c_ast.specs.CheckedTrees.{ESwitch, EMe, TExprTrees, NoTExprs, MoreTExprs, TStmtTree}
+use Rattle.fx_c_ast.specs.CheckedTrees.{SEmpty, SBlock, SLocal, SEval, SAssign, SIf, SWhile, SFor}
+use Rattle.fx_c_ast.specs.CheckedTrees.{SBreak, SContinue, SReturn, TStmtTrees, NoTStmts}
+use Rattle.fx_c_ast.specs.CheckedTrees.{MoreTStmts, MaybeTStmt, NoTStmt, OneTStmt, tstmt_trees}
+use Rattle.fx_c_ast.specs.CheckedTrees.{local_types}
 use Rattle.fx_c_ast.specs.declared.layout.Layout.{Layout}
 use Rattle.fx_c_ast.specs.Layout.{type_layout, known_layouts, round_up}
 

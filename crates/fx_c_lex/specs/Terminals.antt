@@ -2,8 +2,18 @@
 -- profile; the spellings are those of C11 6.4.1 and 6.4.6, and of the profile's own keywords).
 use Rattle.std.specs.Prelude.{◌≡◌, ◌↔◌, ℕ, List, Some, codes}
 use Rattle.fx_c_lex.specs.declared.token.TokenKind.TheVariants.{Keyword, Sign}
-use Rattle.fx_c_lex.specs.declared.keyword.TheConstants.{CHAR, SHORT, INT, LONG, UNSIGNED, VOID, STRUCT, IF, ELSE, WHILE, FOR, BREAK, CONTINUE, RETURN, SIZEOF, SHARED, ENTRY, GATE, PUTC, GETC, IN, OUT, SPAWN, SWITCH, SELF, READ}
-use Rattle.fx_c_lex.specs.declared.sign.TheConstants.{OPEN_PAREN, CLOSE_PAREN, OPEN_BRACE, CLOSE_BRACE, OPEN_BRACKET, CLOSE_BRACKET, SEMICOLON, COMMA, DOT, ARROW, ASSIGN, EQUAL, NOT_EQUAL, LESS, GREATER, LESS_EQUAL, GREATER_EQUAL, SHIFT_LEFT, SHIFT_RIGHT, PLUS, MINUS, STAR, SLASH, PERCENT, AMPERSAND, BAR, CARET, TILDE, BANG, AND_AND, BAR_BAR}
+use Rattle.fx_c_lex.specs.declared.keyword.TheConstants.{CHAR, SHORT, INT, LONG, UNSIGNED, VOID}
+use Rattle.fx_c_lex.specs.declared.keyword.TheConstants.{STRUCT, IF, ELSE, WHILE, FOR, BREAK}
+use Rattle.fx_c_lex.specs.declared.keyword.TheConstants.{CONTINUE, RETURN, SIZEOF, SHARED, ENTRY}
+use Rattle.fx_c_lex.specs.declared.keyword.TheConstants.{GATE, PUTC, GETC, IN, OUT, SPAWN, SWITCH}
+use Rattle.fx_c_lex.specs.declared.keyword.TheConstants.{SELF, READ}
+use Rattle.fx_c_lex.specs.declared.sign.TheConstants.{OPEN_PAREN, CLOSE_PAREN, OPEN_BRACE}
+use Rattle.fx_c_lex.specs.declared.sign.TheConstants.{CLOSE_BRACE, OPEN_BRACKET, CLOSE_BRACKET}
+use Rattle.fx_c_lex.specs.declared.sign.TheConstants.{SEMICOLON, COMMA, DOT, ARROW, ASSIGN, EQUAL}
+use Rattle.fx_c_lex.specs.declared.sign.TheConstants.{NOT_EQUAL, LESS, GREATER, LESS_EQUAL}
+use Rattle.fx_c_lex.specs.declared.sign.TheConstants.{GREATER_EQUAL, SHIFT_LEFT, SHIFT_RIGHT, PLUS}
+use Rattle.fx_c_lex.specs.declared.sign.TheConstants.{MINUS, STAR, SLASH, PERCENT, AMPERSAND, BAR}
+use Rattle.fx_c_lex.specs.declared.sign.TheConstants.{CARET, TILDE, BANG, AND_AND, BAR_BAR}
 use Rattle.fx_c_lex.specs.Lexis.{meaning}
 
 -- The keyword of a number is this spelling, and no other bytes are that keyword.

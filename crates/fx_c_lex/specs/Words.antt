@@ -7,11 +7,21 @@ use Rattle.fx_c_lex.specs.declared.token.TokenKind.TheVariants.{Name, Keyword, S
 
 -- The keywords, by their numbers from 0.
 abbrev pub keywords : List (List ℕ)
-keywords = codes "char" ∷ codes "short" ∷ codes "int" ∷ codes "long" ∷ codes "unsigned" ∷ codes "void" ∷ codes "struct" ∷ codes "if" ∷ codes "else" ∷ codes "while" ∷ codes "for" ∷ codes "break" ∷ codes "continue" ∷ codes "return" ∷ codes "sizeof" ∷ codes "__shared" ∷ codes "__entry" ∷ codes "__gate" ∷ codes "__putc" ∷ codes "__getc" ∷ codes "__in" ∷ codes "__out" ∷ codes "__spawn" ∷ codes "__switch" ∷ codes "__self" ∷ codes "__read" ∷ []
+keywords =
+    codes "char" ∷ codes "short" ∷ codes "int" ∷ codes "long" ∷ codes "unsigned" ∷ codes "void"
+    ∷ codes "struct" ∷ codes "if" ∷ codes "else" ∷ codes "while" ∷ codes "for" ∷ codes "break"
+    ∷ codes "continue" ∷ codes "return" ∷ codes "sizeof" ∷ codes "__shared" ∷ codes "__entry"
+    ∷ codes "__gate" ∷ codes "__putc" ∷ codes "__getc" ∷ codes "__in" ∷ codes "__out"
+    ∷ codes "__spawn" ∷ codes "__switch" ∷ codes "__self" ∷ codes "__read" ∷ []
 
 -- The punctuation, by its numbers from 0.
 abbrev pub signs : List (List ℕ)
-signs = codes "(" ∷ codes ")" ∷ codes "{" ∷ codes "}" ∷ codes "[" ∷ codes "]" ∷ codes ";" ∷ codes "," ∷ codes "." ∷ codes "->" ∷ codes "=" ∷ codes "==" ∷ codes "!=" ∷ codes "<" ∷ codes ">" ∷ codes "<=" ∷ codes ">=" ∷ codes "<<" ∷ codes ">>" ∷ codes "+" ∷ codes "-" ∷ codes "*" ∷ codes "/" ∷ codes "%" ∷ codes "&" ∷ codes "|" ∷ codes "^" ∷ codes "~" ∷ codes "!" ∷ codes "&&" ∷ codes "||" ∷ []
+signs =
+    codes "(" ∷ codes ")" ∷ codes "{" ∷ codes "}" ∷ codes "[" ∷ codes "]" ∷ codes ";" ∷ codes ","
+    ∷ codes "." ∷ codes "->" ∷ codes "=" ∷ codes "==" ∷ codes "!=" ∷ codes "<" ∷ codes ">"
+    ∷ codes "<=" ∷ codes ">=" ∷ codes "<<" ∷ codes ">>" ∷ codes "+" ∷ codes "-" ∷ codes "*"
+    ∷ codes "/" ∷ codes "%" ∷ codes "&" ∷ codes "|" ∷ codes "^" ∷ codes "~" ∷ codes "!" ∷ codes "&&"
+    ∷ codes "||" ∷ []
 
 -- The place of a spelling in a list of spellings, from 0.
 abbrev pub place_of : List (List ℕ) → List ℕ → Option ℕ

@@ -3,7 +3,9 @@
 -- The stack holds words: values of the source, but for the null pointer, which is the number 0. An op on a variable of
 -- the running call, and one whose right operand isn't pending, does at once what the ops do that it stands for; such an
 -- access is to the call's own object, which its compartment always may access.
-use Rattle.std.specs.Prelude.{ℕ, zero, suc, ◌+◌, ◌-◌, ◌/◌, Bool, true, false, not, ◌&&◌, nat_eq, nat_lt, pos, neg_ℤ, List, [], ◌∷◌, ◌++◌, length, slice_get, slice_set, slice_index_or, Option, Some, None, Result, Ok, Err, if◌then◌else◌}
+use Rattle.std.specs.Prelude.{ℕ, zero, suc, ◌+◌, ◌-◌, ◌/◌, Bool, true, false, not, ◌&&◌, nat_eq}
+use Rattle.std.specs.Prelude.{nat_lt, pos, neg_ℤ, List, [], ◌∷◌, ◌++◌, length, slice_get, slice_set}
+use Rattle.std.specs.Prelude.{slice_index_or, Option, Some, None, Result, Ok, Err, if◌then◌else◌}
 use Rattle.fx_outcomes.specs.Runs.{Next, Goes, Stops}
 use Rattle.fx_outcomes.specs.Runs as runs
 use Rattle.fx_base.specs.declared.device_op.DeviceOp.{DeviceOp}
@@ -19,15 +21,19 @@ use Rattle.fx_c_mean_blocks.specs.declared.block.Object.{Object}
 use Rattle.fx_c_mean_blocks.specs.declared.fault.Fault.{Fault}
 use Rattle.fx_c_mean_blocks.specs.declared.fault.Fault.TheVariants as fault
 use Rattle.fx_c_mean_blocks.specs.Integers.{number, converted}
-use Rattle.fx_c_mean_blocks.specs.Blocks.{byte_read, cells_of, width, object_in, offset_in, loaded, writable, written, without, moved}
-use Rattle.fx_c_mean_blocks.specs.Operators.{elements, difference, pointer_result, integers, unary_result}
+use Rattle.fx_c_mean_blocks.specs.Blocks.{byte_read, cells_of, width, object_in, offset_in, loaded}
+use Rattle.fx_c_mean_blocks.specs.Blocks.{writable, written, without, moved}
+use Rattle.fx_c_mean_blocks.specs.Operators.{elements, difference, pointer_result, integers}
+use Rattle.fx_c_mean_blocks.specs.Operators.{unary_result}
 use Rattle.fx_c_mean_model.specs.declared.end.End.{End}
-use Rattle.fx_c_mean_model.specs.declared.end.End.TheVariants.{Exit, Denied, StackFull, BadThread, ThreadsFull, Undefined}
+use Rattle.fx_c_mean_model.specs.declared.end.End.TheVariants.{Exit, Denied, StackFull, BadThread}
+use Rattle.fx_c_mean_model.specs.declared.end.End.TheVariants.{ThreadsFull, Undefined}
 use Rattle.fx_c_mean_model.specs.declared.rights.Rights.{Rights}
 use Rattle.fx_c_mean_model.specs.Programs.{Program, function_at, first_memory, call_objects}
 use Rattle.fx_c_mean_model.specs.Rights.{home, may, stack_of, stack_size, no_variable}
 use Rattle.fx_c_mean_model.specs.States.{Call}
-use Rattle.fx_c_mean_model.specs.Steps.{end_of, is_true, taken, exit_value, further, operation, place_of}
+use Rattle.fx_c_mean_model.specs.Steps.{end_of, is_true, taken, exit_value, further, operation}
+use Rattle.fx_c_mean_model.specs.Steps.{place_of}
 use Rattle.fx_c_lin.specs.declared.op.Right.{Right}
 use Rattle.fx_c_lin.specs.declared.op.Right.TheVariants as right
 use Rattle.fx_c_lin.specs.declared.op.Compared.{Compared}
@@ -65,7 +71,9 @@ pub data Spot : Type 0 where
   -- a thread's first call
   Begins : (f : ℕ) (values : List Value) → Spot
   -- amid a copy of so many bytes, of which some are done; the byte that was read and is to be written, if there is one
-  Copies : (place : ℕ) (stack : List Value) (bytes : ℕ) (to from : Value) (done : ℕ) (read : Option Cell) → Spot
+  Copies : (place : ℕ) (stack : List Value) (bytes : ℕ) (to from : Value) (done : ℕ)
+      (read : Option Cell)
+      → Spot
 
 pub data Thread : Type 0 where
   Running : Thread
@@ -100,7 +108,8 @@ conversion_of o v = v
 
 abbrev pub free_op : Op → ℕ → List Value → Option (ℕ × List Value)
 free_op (op.Number w) place stack = Some (place + 1, Number w ∷ stack)
-free_op (op.Convert i j) place (v ∷ stack) = Some (place + 1, conversion_of (op.Convert i j) v ∷ stack)
+free_op (op.Convert i j) place (v ∷ stack) =
+    Some (place + 1, conversion_of (op.Convert i j) v ∷ stack)
 free_op op.Drop place (v ∷ stack) = Some (place + 1, stack)
 free_op (op.Jump to) place stack = Some (to, stack)
 free_op o place stack = None
@@ -120,7 +129,8 @@ settle_on (Some x) here go = go x.0 x.1
 -- at most n ops of cost 0 are done; where more follow, the state's next op costs nothing and the code stands still
 abbrev pub settle : List Step → ℕ → ℕ → List Value → Spot
 settle code zero place stack = At place stack
-settle code (suc n) place stack = settle_on (freed (slice_get code place) place stack) (At place stack) (settle code n)
+settle code (suc n) place stack =
+    settle_on (freed (slice_get code place) place stack) (At place stack) (settle code n)
 
 -- at most so many ops of cost 0 follow one another
 abbrev pub most_free : ℕ
@@ -149,11 +159,19 @@ allowed p r s v write place done =
     else Stops [] (Denied (home p r s.call.function) (object_in v) (offset_in v) write)
 
 abbrev pub loads : Program → Rights → State → ℕ → List Value → TyTree → Value → Outcome
-loads p r s place stack ty v = checked (loaded s.memory ty v) (λ x. allowed p r s v false x.1 (goes_to s (place + 1) (word_of x.0 ∷ stack)))
+loads p r s place stack ty v =
+    checked (loaded s.memory ty v)
+    (λ x. allowed p r s v false x.1 (goes_to s (place + 1) (word_of x.0 ∷ stack)))
 
 abbrev pub stores : Program → Rights → State → ℕ → List Value → TyTree → Value → Value → Outcome
 stores p r s place stack ty to v =
-    checked (writable s.memory to (width ty)) (λ at. allowed p r s to true at (Goes [] (record s { memory = written s.memory to (cells_of (width ty) v); spot = At (place + 1) stack })))
+    checked (writable s.memory to (width ty))
+    (λ at. allowed p r s to true at
+    (Goes []
+    (record s {
+      memory = written s.memory to (cells_of (width ty) v);
+      spot = At (place + 1) stack;
+    })))
 
 -- a variable of the running call: its type, its place, and its value
 abbrev pub local_type : Program → State → ℕ → TyTree
@@ -171,10 +189,17 @@ local_value p s n = first_of (loaded s.memory (local_type p s n) (local_place s 
 
 abbrev pub stores_local : Program → State → ℕ → List Value → ℕ → Value → Outcome
 stores_local p s place stack n v =
-    checked (writable s.memory (local_place s n) (width (local_type p s n))) (λ at. Goes [] (record s { memory = written s.memory (local_place s n) (cells_of (width (local_type p s n)) v); spot = At (place + 1) stack }))
+    checked (writable s.memory (local_place s n) (width (local_type p s n)))
+    (λ at. Goes []
+    (record s {
+      memory = written s.memory (local_place s n)
+          (cells_of (width (local_type p s n)) v);
+      spot = At (place + 1) stack;
+    }))
 
 -- the right operand's word, and the stack below it
-abbrev pub with_right : Program → State → Right → List Value → (Value → List Value → Outcome) → Outcome
+abbrev pub with_right : Program → State → Right → List Value → (Value → List Value → Outcome)
+    → Outcome
 with_right p s right.Pending [] go = Stops [] Undefined
 with_right p s right.Pending (w ∷ stack) go = go w stack
 with_right p s (right.Number w) stack go = go (Number w) stack
@@ -195,7 +220,8 @@ use_of p r stack [] = 0
 use_of p r stack (c ∷ callers) = taken p r stack c.call c.crosses + use_of p r stack callers
 
 abbrev pub has_room : Program → Rights → ℕ → List Saved → Bool
-has_room p r f callers = not (nat_lt (stack_size r) (use_of p r (stack_of p r f) callers + (function_at p f).frame + 96))
+has_room p r f callers =
+    not (nat_lt (stack_size r) (use_of p r (stack_of p r f) callers + (function_at p f).frame + 96))
 
 abbrev pub entered : Program → State → ℕ → List Value → List Saved → State
 entered p s f values callers = record s {
@@ -218,20 +244,29 @@ popped (suc n) (v ∷ stack) values = popped n stack (v ∷ values)
 
 abbrev pub calls : Program → Rights → State → ℕ → ℕ → Bool → List Value × List Value → Outcome
 calls p r s place f crosses x =
-    enter p r s f x.0 (record { call = s.call; crosses = crosses; place = place + 1; stack = x.1 } ∷ s.callers)
+    enter p r s f x.0
+    (record { call = s.call; crosses = crosses; place = place + 1; stack = x.1 } ∷ s.callers)
 
 abbrev pub crosses_to : Program → Rights → State → ℕ → Bool
 crosses_to p r s f = not (nat_eq (home p r s.call.function) (home p r f))
 
 abbrev pub resume : State → Thread → ℕ → Option Thread → Outcome
 resume s left t (Some (Waiting spot call callers)) =
-    Goes [] (record s { threads = slice_set (slice_set s.threads s.current left) t Running; current = t; call = call; callers = callers; spot = spot })
+    Goes []
+    (record s {
+      threads = slice_set (slice_set s.threads s.current left) t Running;
+      current = t;
+      call = call;
+      callers = callers;
+      spot = spot;
+    })
 resume s left t _ = Stops [] BadThread
 
 abbrev pub switch : State → ℕ → List Value → Value → Outcome
 switch s place stack (Number t) =
     if nat_eq t s.current then goes_to s (place + 1) (Void ∷ stack)
-    else resume s (Waiting (At (place + 1) (Void ∷ stack)) s.call s.callers) t (slice_get s.threads t)
+    else resume s (Waiting (At (place + 1) (Void ∷ stack)) s.call s.callers) t
+    (slice_get s.threads t)
 switch s place stack v = Stops [] Undefined
 
 abbrev pub new_thread : ℕ → Value → Thread
@@ -239,7 +274,12 @@ new_thread f v = Waiting (Begins f (v ∷ [])) (record { function = f; base = 0 
 
 abbrev pub spawn : State → ℕ → List Value → ℕ → Value → Outcome
 spawn s place stack f v =
-    if nat_lt (length s.threads) 16 then Goes [] (record s { threads = s.threads ++ new_thread f v ∷ []; spot = At (place + 1) (Number (length s.threads) ∷ stack) })
+    if nat_lt (length s.threads) 16
+    then Goes []
+    (record s {
+      threads = s.threads ++ new_thread f v ∷ [];
+      spot = At (place + 1) (Number (length s.threads) ∷ stack);
+    })
     else Stops [] ThreadsFull
 
 abbrev pub ended : Program → State → Value → Outcome
@@ -249,31 +289,47 @@ ended p s v =
 
 abbrev pub returned : Program → State → Value → List Saved → Outcome
 returned p s v [] = ended p s v
-returned p s v (c ∷ callers) = Goes [] (record s { call = c.call; callers = callers; spot = At c.place (v ∷ c.stack) })
+returned p s v (c ∷ callers) =
+    Goes [] (record s { call = c.call; callers = callers; spot = At c.place (v ∷ c.stack) })
 
 abbrev pub left : Program → State → State
-left p s = record s { memory = without s.memory s.call.base (length (function_at p s.call.function).variables) }
+left p s =
+    record s
+    { memory = without s.memory s.call.base (length (function_at p s.call.function).variables) }
 
 abbrev pub leave : Program → State → Value → Outcome
 leave p s v = returned p (left p s) v s.callers
 
 abbrev pub told : State → ℕ → List Value → ℕ → ℕ → Value → Outcome
-told s place stack device register (Number w) = Goes (operation device register true w ∷ []) (record s { spot = At (place + 1) (Void ∷ stack) })
+told s place stack device register (Number w) =
+    Goes (operation device register true w ∷ []) (record s { spot = At (place + 1) (Void ∷ stack) })
 told s place stack device register v = Stops [] Undefined
 
 abbrev pub asked : State → ℕ → List Value → ℕ → ℕ → ℕ → Outcome
-asked s place stack device register answer = Goes (operation device register false answer ∷ []) (record s { spot = At (place + 1) (Number answer ∷ stack) })
+asked s place stack device register answer =
+    Goes (operation device register false answer ∷ [])
+    (record s { spot = At (place + 1) (Number answer ∷ stack) })
 
 abbrev pub copy_reads : Program → Rights → State → ℕ → List Value → ℕ → Value → Value → ℕ → Outcome
 copy_reads p r s place stack bytes to v done =
-    checked (byte_read s.memory (further v done)) (λ x. allowed p r s (further v done) false x.1 (Goes [] (record s { spot = Copies place stack bytes to v done (Some x.0) })))
+    checked (byte_read s.memory (further v done))
+    (λ x. allowed p r s (further v done) false x.1
+    (Goes [] (record s { spot = Copies place stack bytes to v done (Some x.0) })))
 
 abbrev pub next_copy : ℕ → List Value → ℕ → Value → Value → ℕ → Spot
-next_copy place stack bytes to v done = if nat_lt done bytes then Copies place stack bytes to v done None else At (place + 1) stack
+next_copy place stack bytes to v done =
+    if nat_lt done bytes then Copies place stack bytes to v done None else At (place + 1) stack
 
-abbrev pub copy_writes : Program → Rights → State → ℕ → List Value → ℕ → Value → Value → ℕ → Cell → Outcome
+abbrev pub copy_writes : Program → Rights → State → ℕ → List Value → ℕ → Value → Value → ℕ → Cell
+    → Outcome
 copy_writes p r s place stack bytes to v done cell =
-    checked (writable s.memory (further to done) 1) (λ at. allowed p r s (further to done) true at (Goes [] (record s { memory = written s.memory (further to done) (cell ∷ []); spot = next_copy place stack bytes to v (done + 1) })))
+    checked (writable s.memory (further to done) 1)
+    (λ at. allowed p r s (further to done) true at
+    (Goes []
+    (record s {
+      memory = written s.memory (further to done) (cell ∷ []);
+      spot = next_copy place stack bytes to v (done + 1);
+    })))
 
 abbrev pub jump_zero : State → ℕ → List Value → ℕ → Bool → Outcome
 jump_zero s place stack to true = goes_to s (place + 1) stack
@@ -295,7 +351,8 @@ binary s place o i w (v ∷ stack) = pushes s place stack (integers o i v w)
 
 abbrev pub compare_pointers : State → ℕ → Binop → Value → List Value → Outcome
 compare_pointers s place o w [] = Stops [] Undefined
-compare_pointers s place o w (v ∷ stack) = pushes s place stack (pointer_result s.memory o 1 (pointer_of_word v) (pointer_of_word w))
+compare_pointers s place o w (v ∷ stack) =
+    pushes s place stack (pointer_result s.memory o 1 (pointer_of_word v) (pointer_of_word w))
 
 abbrev pub index : State → ℕ → ℕ → IntType → Value → List Value → Outcome
 index s place bytes i w [] = Stops [] Undefined
@@ -311,28 +368,42 @@ compare_jump s place o of to w (v ∷ stack) = checked (comparison s.memory o of
 
 abbrev pub perform : Program → Rights → ℕ → State → ℕ → Op → List Value → Outcome
 perform p r answer s place (op.Number w) stack = goes_to s (place + 1) (Number w ∷ stack)
-perform p r answer s place (op.LocalAddr n) stack = goes_to s (place + 1) (place_of (s.call.base + n) 0 ∷ stack)
+perform p r answer s place (op.LocalAddr n) stack =
+    goes_to s (place + 1) (place_of (s.call.base + n) 0 ∷ stack)
 perform p r answer s place (op.LoadLocal n) stack = pushes s place stack (local_value p s n)
 perform p r answer s place (op.StoreLocal n) (v ∷ stack) = stores_local p s place stack n v
 perform p r answer s place (op.GlobalAddr n) stack = goes_to s (place + 1) (place_of n 0 ∷ stack)
-perform p r answer s place (op.LiteralAddr n) stack = goes_to s (place + 1) (place_of (length p.globals + n) 0 ∷ stack)
+perform p r answer s place (op.LiteralAddr n) stack =
+    goes_to s (place + 1) (place_of (length p.globals + n) 0 ∷ stack)
 perform p r answer s place (op.Load ty) (v ∷ stack) = loads p r s place stack ty v
 perform p r answer s place (op.Store ty) (v ∷ (to ∷ stack)) = stores p r s place stack ty to v
-perform p r answer s place (op.Copy bytes) (v ∷ (to ∷ stack)) = copy_reads p r s place stack bytes to v 0
-perform p r answer s place (op.Unary o i) (v ∷ stack) = pushes s place stack (unary_result o (IntTy i) v)
-perform p r answer s place (op.Binary o i right) stack = with_right p s right stack (binary s place o i)
-perform p r answer s place (op.PtrCompare o right) stack = with_right p s right stack (compare_pointers s place o)
+perform p r answer s place (op.Copy bytes) (v ∷ (to ∷ stack)) =
+    copy_reads p r s place stack bytes to v 0
+perform p r answer s place (op.Unary o i) (v ∷ stack) =
+    pushes s place stack (unary_result o (IntTy i) v)
+perform p r answer s place (op.Binary o i right) stack =
+    with_right p s right stack (binary s place o i)
+perform p r answer s place (op.PtrCompare o right) stack =
+    with_right p s right stack (compare_pointers s place o)
 perform p r answer s place (op.CompareJump o of right to) stack = with_right p s right stack (compare_jump s place o of to)
-perform p r answer s place (op.Convert i j) (v ∷ stack) = goes_to s (place + 1) (conversion_of (op.Convert i j) v ∷ stack)
-perform p r answer s place (op.Index bytes right) stack = with_right p s right stack (index s place bytes (index_type p s right))
-perform p r answer s place (op.IndexLeft bytes) (w ∷ (v ∷ stack)) = pushes s place stack (indexed s.memory bytes Long w v)
-perform p r answer s place (op.Back bytes) (w ∷ (v ∷ stack)) = pushes s place stack (indexed_back s.memory bytes v w)
-perform p r answer s place (op.Difference bytes) (w ∷ (v ∷ stack)) = pushes s place stack (difference bytes v w)
-perform p r answer s place (op.Offset bytes) (v ∷ stack) = pushes s place stack (moved s.memory v (pos bytes))
+perform p r answer s place (op.Convert i j) (v ∷ stack) =
+    goes_to s (place + 1) (conversion_of (op.Convert i j) v ∷ stack)
+perform p r answer s place (op.Index bytes right) stack =
+    with_right p s right stack (index s place bytes (index_type p s right))
+perform p r answer s place (op.IndexLeft bytes) (w ∷ (v ∷ stack)) =
+    pushes s place stack (indexed s.memory bytes Long w v)
+perform p r answer s place (op.Back bytes) (w ∷ (v ∷ stack)) =
+    pushes s place stack (indexed_back s.memory bytes v w)
+perform p r answer s place (op.Difference bytes) (w ∷ (v ∷ stack)) =
+    pushes s place stack (difference bytes v w)
+perform p r answer s place (op.Offset bytes) (v ∷ stack) =
+    pushes s place stack (moved s.memory v (pos bytes))
 perform p r answer s place (op.Jump to) stack = goes_to s to stack
 perform p r answer s place (op.JumpZero to) (v ∷ stack) = jump_zero s place stack to (is_true v)
-perform p r answer s place (op.Call f) stack = calls p r s place f false (popped (function_at p f).params stack [])
-perform p r answer s place (op.Gate f) stack = calls p r s place f (crosses_to p r s f) (popped (function_at p f).params stack [])
+perform p r answer s place (op.Call f) stack =
+    calls p r s place f false (popped (function_at p f).params stack [])
+perform p r answer s place (op.Gate f) stack =
+    calls p r s place f (crosses_to p r s f) (popped (function_at p f).params stack [])
 perform p r answer s place (op.Spawn f) (v ∷ stack) = spawn s place stack f v
 perform p r answer s place op.Switch (v ∷ stack) = switch s place stack v
 perform p r answer s place op.Me stack = goes_to s (place + 1) (Number s.current ∷ stack)
@@ -350,10 +421,13 @@ perform_at p r answer s place None stack = Stops [] Undefined
 perform_at p r answer s place (Some x) stack = perform p r answer s place x.op stack
 
 abbrev pub act : Program → Rights → List (List Step) → ℕ → State → Spot → Outcome
-act p r all answer s (At place stack) = perform_at p r answer s place (slice_get (steps_of all s.call.function) place) stack
+act p r all answer s (At place stack) =
+    perform_at p r answer s place (slice_get (steps_of all s.call.function) place) stack
 act p r all answer s (Begins f values) = enter p r s f values s.callers
-act p r all answer s (Copies place stack bytes to v done None) = copy_reads p r s place stack bytes to v done
-act p r all answer s (Copies place stack bytes to v done (Some cell)) = copy_writes p r s place stack bytes to v done cell
+act p r all answer s (Copies place stack bytes to v done None) =
+    copy_reads p r s place stack bytes to v done
+act p r all answer s (Copies place stack bytes to v done (Some cell)) =
+    copy_writes p r s place stack bytes to v done cell
 
 -- and the ops of cost 0 behind it
 abbrev pub onward : List (List Step) → Outcome → Outcome
@@ -378,7 +452,9 @@ if_goes_on true s done = done
 if_goes_on false s done = Goes [] s
 
 abbrev pub step : Program → Rights → List (List Step) → ℕ → State → Outcome
-step p r all answer s = if_goes_on (goes_on (steps_of all s.call.function) s.spot) s (onward all (act p r all answer s s.spot))
+step p r all answer s =
+    if_goes_on (goes_on (steps_of all s.call.function) s.spot) s
+    (onward all (act p r all answer s s.spot))
 
 -- ---- cost
 
@@ -440,7 +516,8 @@ asks_at code spot = false
 abbrev pub asks : List (List Step) → State → Bool
 asks all s = asks_at (steps_of all s.call.function) s.spot
 
-abbrev pub advance : Program → Rights → List (List Step) → Bool → State → List ℕ → Next DeviceOp Run End
+abbrev pub advance : Program → Rights → List (List Step) → Bool → State → List ℕ
+    → Next DeviceOp Run End
 advance p r all false s answers = with_answers answers (step p r all 0 s)
 advance p r all true s [] = Goes [] (record { state = s; answers = [] })
 advance p r all true s (answer ∷ answers) = with_answers answers (step p r all answer s)
@@ -450,4 +527,6 @@ run_step p r all x = advance p r all (asks all x.state) x.state x.answers
 
 -- the operations and the end of the code within a cost
 abbrev pub performed : Program → Rights → List (List Step) → List ℕ → ℕ → runs.Outcome DeviceOp End
-performed p r all answers k = runs.expected (run_step p r all) (λ x. extra p all x.state) k (record { state = first_state p; answers = answers })
+performed p r all answers k =
+    runs.expected (run_step p r all) (λ x. extra p all x.state) k
+    (record { state = first_state p; answers = answers })

@@ -20,8 +20,9 @@ pub enum Compared {
     Pointers,
 }
 
-/// An op. The operands that it takes are the latest ones of the stack, the right one on top. An op
-/// that has no result leaves the value `Void`.
+/// An op. The operands that it takes are the latest ones of the stack, the right one on top; what
+/// it leaves, if not said otherwise, is one value on top. A call of a function that returns nothing,
+/// `Switch`, `DevStore` and `Putc` leave the value `Void`.
 ///
 /// An op on a local variable and an op whose right operand isn't pending stand for several ops.
 #[derive(Debug, Drop, PartialEq)]
@@ -45,12 +46,15 @@ pub enum Op {
     /// Takes two addresses and copies so many bytes from the second to the first, byte by byte;
     /// leaves nothing.
     Copy(u32),
+    /// An integer under an operator, at its type.
     Unary(Unop, IntType),
+    /// Two integers under an operator, at the type of the left one.
     Binary(Binop, IntType, Right),
     /// 1 or 0 by a comparison of two pointers.
     PtrCompare(Binop, Right),
-    /// Goes to a position where a comparison is false; leaves nothing.
+    /// Compares two operands and goes to a position where the comparison is false; leaves nothing.
     CompareJump(Binop, Compared, Right, u32),
+    /// An integer of the first type as one of the second.
     Convert(IntType, IntType),
     /// A pointer moved by so many elements of a size in bytes. A pending number is a `long`; a
     /// variable is read as its type says.
@@ -58,15 +62,17 @@ pub enum Op {
     /// An integer, and a pointer above it: the pointer moved by so many elements of a size in bytes.
     /// The integer is a `long`.
     IndexLeft(u32),
-    /// A pointer moved back by so many elements of a size in bytes.
+    /// A pointer, and a `long` above it: the pointer moved back by so many elements of a size in
+    /// bytes.
     Back(u32),
     /// The difference of two pointers in elements of a size in bytes.
     Difference(u32),
     /// A pointer so many bytes on.
     Offset(u32),
-    /// Goes to a position.
+    /// Goes to a position; leaves nothing.
     Jump(u32),
-    /// Takes an integer or a pointer and goes to a position where it is 0 or null; leaves nothing.
+    /// Takes an integer and goes to a position where it is 0; leaves nothing. A pointer is compared
+    /// with null by `CompareJump` instead.
     JumpZero(u32),
     /// Calls a function by its number, with as many operands as it has parameters.
     Call(u32),
@@ -74,19 +80,19 @@ pub enum Op {
     Gate(u32),
     /// Makes a thread that calls a function with the operand; leaves the thread's number.
     Spawn(u32),
-    /// Switches to the thread of the operand's number.
+    /// Switches to the thread of the operand's number; leaves `Void`.
     Switch,
     /// The number of the running thread.
     Me,
-    /// The word that a device's register gives.
+    /// The word that a device gives in a register, by their numbers.
     DevLoad(u16, u16),
-    /// Takes a word for a device's register.
+    /// Takes a word for a device's register, whose numbers these are; leaves `Void`.
     DevStore(u16, u16),
     /// The next byte from the console.
     Getc,
-    /// Takes a byte for the console.
+    /// Takes a byte for the console; leaves `Void`.
     Putc,
-    /// Takes a value.
+    /// Takes a value; leaves nothing.
     Drop,
     /// Returns with the value on top of the stack, or with none where the stack is empty.
     Return,

@@ -16,4 +16,6 @@ IsUndefined _ = ⊥
 
 -- at every cost the code's outcome is the program's, or the program's is undefined and the code's goes on from it
 abbrev pub LoweringCorrect : Type 0
-LoweringCorrect = (p : Program) (r : Rights) (answers : List ℕ) (k : ℕ) → FitsProgram p → Refines IsUndefined (expected p r answers k) (performed p r (code_of p) answers k)
+LoweringCorrect =
+    (p : Program) (r : Rights) (answers : List ℕ) (k : ℕ) → FitsProgram p
+    → Refines IsUndefined (expected p r answers k) (performed p r (code_of p) answers k)

@@ -5,7 +5,13 @@ use Rattle.fx_c_ast.specs.declared.operator.IntType.{IntType}
 use Rattle.fx_c_ast.specs.declared.operator.IntType.TheVariants.{Ulong}
 use Rattle.fx_c_ast.specs.declared.operator.Binop.{Binop}
 use Rattle.fx_c_ast.specs.declared.operator.Binop.TheVariants.{Add, Sub, Land, Lor}
-use Rattle.fx_c_ast.specs.CheckedTrees.{TyTree, IntTy, PtrTy, TExprTree, ELocal, EUn, EBin, ECast, EConvert, EIndex, EMember, EArrow, ECall, EGate, EPutc, EDevStore, ESpawn, ESwitch, TExprTrees, NoTExprs, MoreTExprs, TStmtTree, SEmpty, SBlock, SLocal, SEval, SAssign, SIf, SWhile, SFor, SBreak, SContinue, SReturn, TStmtTrees, NoTStmts, MoreTStmts, MaybeTStmt, NoTStmt, OneTStmt}
+use Rattle.fx_c_ast.specs.CheckedTrees.{TyTree, IntTy, PtrTy, TExprTree, ELocal, EUn, EBin, ECast}
+use Rattle.fx_c_ast.specs.CheckedTrees.{EConvert, EIndex, EMember, EArrow, ECall, EGate, EPutc}
+use Rattle.fx_c_ast.specs.CheckedTrees.{EDevStore, ESpawn, ESwitch, TExprTrees, NoTExprs}
+use Rattle.fx_c_ast.specs.CheckedTrees.{MoreTExprs, TStmtTree, SEmpty, SBlock, SLocal, SEval}
+use Rattle.fx_c_ast.specs.CheckedTrees.{SAssign, SIf, SWhile, SFor, SBreak, SContinue, SReturn}
+use Rattle.fx_c_ast.specs.CheckedTrees.{TStmtTrees, NoTStmts, MoreTStmts, MaybeTStmt, NoTStmt}
+use Rattle.fx_c_ast.specs.CheckedTrees.{OneTStmt}
 use Rattle.fx_c_mean_model.specs.Programs.{Program, function_at}
 use Rattle.fx_c_mean_model.specs.Rights.{no_variable}
 use Rattle.fx_c_mean_model.specs.States.{type_of}
@@ -39,7 +45,9 @@ FitsPair o s t = ⊥
 
 -- a variable of a function, by its number and its type
 abbrev pub FitsLocal : Program → ℕ → TyTree → ℕ → Type 0
-FitsLocal p f ty n = (n < length (function_at p f).variables) × ((slice_index_or (function_at p f).variables n no_variable).ty ≡ ty)
+FitsLocal p f ty n =
+    (n < length (function_at p f).variables)
+    × ((slice_index_or (function_at p f).variables n no_variable).ty ≡ ty)
 
 -- expressions of a function
 abbrev mutual
@@ -84,7 +92,8 @@ abbrev mutual
   FitsStmt p f (SAssign to e) = Fits p f to × Fits p f e
   FitsStmt p f (SIf test s other) = Fits p f test × FitsStmt p f s × FitsOther p f other
   FitsStmt p f (SWhile test s) = Fits p f test × FitsStmt p f s
-  FitsStmt p f (SFor first test next s) = FitsOther p f first × FitsMaybe p f test × FitsOther p f next × FitsStmt p f s
+  FitsStmt p f (SFor first test next s) =
+      FitsOther p f first × FitsMaybe p f test × FitsOther p f next × FitsStmt p f s
   FitsStmt p f SBreak = Unit {0}
   FitsStmt p f SContinue = Unit {0}
   FitsStmt p f (SReturn e) = FitsMaybe p f e

@@ -4,7 +4,8 @@ use Rattle.fx_c_ast.specs.declared.operator.IntType.{IntType}
 use Rattle.fx_c_ast.specs.declared.operator.IntType.TheVariants.{Long}
 use Rattle.fx_c_ast.specs.declared.operator.Binop.{Binop}
 use Rattle.fx_c_ast.specs.declared.operator.Binop.TheVariants.{Add, Sub}
-use Rattle.fx_c_ast.specs.CheckedTrees.{TyTree, IntTy, PtrTy, TExprTree, ENumber, ELocal, ECast, EConvert, ESize}
+use Rattle.fx_c_ast.specs.CheckedTrees.{TyTree, IntTy, PtrTy, TExprTree, ENumber, ELocal, ECast}
+use Rattle.fx_c_ast.specs.CheckedTrees.{EConvert, ESize}
 use Rattle.fx_c_mean_blocks.specs.Integers.{converted}
 use Rattle.fx_c_mean_model.specs.Programs.{Program, size_in}
 use Rattle.fx_c_mean_model.specs.States.{type_of, is_scalar, same_type}
@@ -48,7 +49,11 @@ abbrev pub key_at : ℕ → ℕ → Bool
 key_at w unit = nat_eq (w / unit % 16777216) 15663375
 
 abbrev pub holds_key : ℕ → Bool
-holds_key w = key_at w 1 || (key_at w 256 || (key_at w 65536 || (key_at w 16777216 || (key_at w 4294967296 || key_at w 1099511627776))))
+holds_key w =
+    key_at w 1
+    || (key_at w 256
+    || (key_at w 65536
+    || (key_at w 16777216 || (key_at w 4294967296 || key_at w 1099511627776))))
 
 abbrev pub right_by : Direct → Right
 right_by (Constant w cost) = chosen (holds_key w) right.Pending (right.Number w)

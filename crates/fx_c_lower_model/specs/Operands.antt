@@ -26,9 +26,11 @@ left_late o owed s t = owed
 
 -- a pointer moved by elements of a size
 abbrev pub move_code : ℕ → Right → Binop → ℕ → IntType → List Step
-move_code owed right.Pending Add bytes i = widening owed i ++ costing (1 + widening_late owed i) (op.Index bytes right.Pending) ∷ []
+move_code owed right.Pending Add bytes i =
+    widening owed i ++ costing (1 + widening_late owed i) (op.Index bytes right.Pending) ∷ []
 move_code owed r Add bytes i = costing (1 + owed) (op.Index bytes r) ∷ []
-move_code owed r Sub bytes i = widening owed i ++ costing (1 + widening_late owed i) (op.Back bytes) ∷ []
+move_code owed r Sub bytes i =
+    widening owed i ++ costing (1 + widening_late owed i) (op.Back bytes) ∷ []
 move_code owed r o bytes i = costing (1 + owed) op.Drop ∷ []
 
 abbrev pub move_len : Right → Binop → IntType → ℕ

@@ -121,7 +121,14 @@ impl<'p> Runner<'p> {
         bus: Bus,
     ) -> Result<Runner<'p>, AllocError>
         requires { ⊤ }
-        ensures { IfOk result (λ r. run_of r.source r.core (bus_state (λ d. (⟦<dyn Device as Device>⟧ d.vtable).meaning d.value) r.bus.boxes r.bus.transcript.items) r.cost r.end ≡ first_run (program_of program.now) (rights_from grants) (bus_state (λ d. (⟦<dyn Device as Device>⟧ d.vtable).meaning d.value) bus.boxes bus.transcript.items)) }
+        ensures { IfOk result
+            (λ r. run_of r.source r.core
+            (bus_state (λ d. (⟦<dyn Device as Device>⟧ d.vtable).meaning d.value)
+            r.bus.boxes r.bus.transcript.items)
+            r.cost r.end
+            ≡ first_run (program_of program.now) (rights_from grants)
+            (bus_state (λ d. (⟦<dyn Device as Device>⟧ d.vtable).meaning d.value)
+            bus.boxes bus.transcript.items)) }
     {
         let rights = rights_of(alloc, &grants)?;
         Runner::of_rights(alloc, program, rights, bus)
@@ -135,7 +142,14 @@ impl<'p> Runner<'p> {
         bus: Bus,
     ) -> Result<Runner<'p>, AllocError>
         requires { ⊤ }
-        ensures { IfOk result (λ r. run_of r.source r.core (bus_state (λ d. (⟦<dyn Device as Device>⟧ d.vtable).meaning d.value) r.bus.boxes r.bus.transcript.items) r.cost r.end ≡ first_run (program_of program.now) rights (bus_state (λ d. (⟦<dyn Device as Device>⟧ d.vtable).meaning d.value) bus.boxes bus.transcript.items)) }
+        ensures { IfOk result
+            (λ r. run_of r.source r.core
+            (bus_state (λ d. (⟦<dyn Device as Device>⟧ d.vtable).meaning d.value)
+            r.bus.boxes r.bus.transcript.items)
+            r.cost r.end
+            ≡ first_run (program_of program.now) rights
+            (bus_state (λ d. (⟦<dyn Device as Device>⟧ d.vtable).meaning d.value)
+            bus.boxes bus.transcript.items)) }
     {
         let source = source_of(alloc, program, rights)?;
         let core = first_core(alloc, &source)?;
@@ -152,8 +166,23 @@ impl<'p> Runner<'p> {
     /// Makes the next step. An end is answered again by each later call.
     pub fn step(&mut self) -> Walk
         requires { ⊤ }
-        ensures walked { Walked (run_of self.old.source self.old.core (bus_state (λ d. (⟦<dyn Device as Device>⟧ d.vtable).meaning d.value) self.old.bus.boxes self.old.bus.transcript.items) self.old.cost self.old.end) result (run_of self.new.source self.new.core (bus_state (λ d. (⟦<dyn Device as Device>⟧ d.vtable).meaning d.value) self.new.bus.boxes self.new.bus.transcript.items) self.new.cost self.new.end) }
-        ensures law { (first : List (Option Meaning)) → BusLaw first (bus_state (λ d. (⟦<dyn Device as Device>⟧ d.vtable).meaning d.value) self.old.bus.boxes self.old.bus.transcript.items) → BusLaw first (bus_state (λ d. (⟦<dyn Device as Device>⟧ d.vtable).meaning d.value) self.new.bus.boxes self.new.bus.transcript.items) }
+        ensures walked { Walked
+            (run_of self.old.source self.old.core
+            (bus_state (λ d. (⟦<dyn Device as Device>⟧ d.vtable).meaning d.value)
+            self.old.bus.boxes self.old.bus.transcript.items)
+            self.old.cost self.old.end)
+            result
+            (run_of self.new.source self.new.core
+            (bus_state (λ d. (⟦<dyn Device as Device>⟧ d.vtable).meaning d.value)
+            self.new.bus.boxes self.new.bus.transcript.items)
+            self.new.cost self.new.end) }
+        ensures law { (first : List (Option Meaning))
+            → BusLaw first
+            (bus_state (λ d. (⟦<dyn Device as Device>⟧ d.vtable).meaning d.value)
+            self.old.bus.boxes self.old.bus.transcript.items)
+            → BusLaw first
+            (bus_state (λ d. (⟦<dyn Device as Device>⟧ d.vtable).meaning d.value)
+            self.new.bus.boxes self.new.bus.transcript.items) }
     {
         match self.end {
             Some(end) => walk_of(&self.core.memory, end),
@@ -163,8 +192,23 @@ impl<'p> Runner<'p> {
 
     /// Makes the next step of a run that has not ended.
     fn go_on(&mut self) -> Walk
-        ensures made { MakesStep (run_of self.old.source self.old.core (bus_state (λ d. (⟦<dyn Device as Device>⟧ d.vtable).meaning d.value) self.old.bus.boxes self.old.bus.transcript.items) self.old.cost self.old.end) result (run_of self.new.source self.new.core (bus_state (λ d. (⟦<dyn Device as Device>⟧ d.vtable).meaning d.value) self.new.bus.boxes self.new.bus.transcript.items) self.new.cost self.new.end) }
-        ensures law { (first : List (Option Meaning)) → BusLaw first (bus_state (λ d. (⟦<dyn Device as Device>⟧ d.vtable).meaning d.value) self.old.bus.boxes self.old.bus.transcript.items) → BusLaw first (bus_state (λ d. (⟦<dyn Device as Device>⟧ d.vtable).meaning d.value) self.new.bus.boxes self.new.bus.transcript.items) }
+        ensures made { MakesStep
+            (run_of self.old.source self.old.core
+            (bus_state (λ d. (⟦<dyn Device as Device>⟧ d.vtable).meaning d.value)
+            self.old.bus.boxes self.old.bus.transcript.items)
+            self.old.cost self.old.end)
+            result
+            (run_of self.new.source self.new.core
+            (bus_state (λ d. (⟦<dyn Device as Device>⟧ d.vtable).meaning d.value)
+            self.new.bus.boxes self.new.bus.transcript.items)
+            self.new.cost self.new.end) }
+        ensures law { (first : List (Option Meaning))
+            → BusLaw first
+            (bus_state (λ d. (⟦<dyn Device as Device>⟧ d.vtable).meaning d.value)
+            self.old.bus.boxes self.old.bus.transcript.items)
+            → BusLaw first
+            (bus_state (λ d. (⟦<dyn Device as Device>⟧ d.vtable).meaning d.value)
+            self.new.bus.boxes self.new.bus.transcript.items) }
     {
         match self.core.step(&self.source, &mut self.known) {
             Step::Went(extra) => {
@@ -189,8 +233,23 @@ impl<'p> Runner<'p> {
     /// Makes the load of a device's register that is the next step, or waits for the console's answer.
     fn load(&mut self, device: u16, register: u16) -> Walk
         requires { (state_of self.old.core).spot ≡ Does (Ask device register) (frames_of self.old.core.frames) }
-        ensures made { MakesStep (run_of self.old.source self.old.core (bus_state (λ d. (⟦<dyn Device as Device>⟧ d.vtable).meaning d.value) self.old.bus.boxes self.old.bus.transcript.items) self.old.cost self.old.end) result (run_of self.new.source self.new.core (bus_state (λ d. (⟦<dyn Device as Device>⟧ d.vtable).meaning d.value) self.new.bus.boxes self.new.bus.transcript.items) self.new.cost self.new.end) }
-        ensures law { (first : List (Option Meaning)) → BusLaw first (bus_state (λ d. (⟦<dyn Device as Device>⟧ d.vtable).meaning d.value) self.old.bus.boxes self.old.bus.transcript.items) → BusLaw first (bus_state (λ d. (⟦<dyn Device as Device>⟧ d.vtable).meaning d.value) self.new.bus.boxes self.new.bus.transcript.items) }
+        ensures made { MakesStep
+            (run_of self.old.source self.old.core
+            (bus_state (λ d. (⟦<dyn Device as Device>⟧ d.vtable).meaning d.value)
+            self.old.bus.boxes self.old.bus.transcript.items)
+            self.old.cost self.old.end)
+            result
+            (run_of self.new.source self.new.core
+            (bus_state (λ d. (⟦<dyn Device as Device>⟧ d.vtable).meaning d.value)
+            self.new.bus.boxes self.new.bus.transcript.items)
+            self.new.cost self.new.end) }
+        ensures law { (first : List (Option Meaning))
+            → BusLaw first
+            (bus_state (λ d. (⟦<dyn Device as Device>⟧ d.vtable).meaning d.value)
+            self.old.bus.boxes self.old.bus.transcript.items)
+            → BusLaw first
+            (bus_state (λ d. (⟦<dyn Device as Device>⟧ d.vtable).meaning d.value)
+            self.new.bus.boxes self.new.bus.transcript.items) }
     {
         if is_console(device, register) {
             return Walk::Input;
@@ -208,8 +267,23 @@ impl<'p> Runner<'p> {
     /// Makes the store to a device's register that is the next step.
     fn store(&mut self, device: u16, register: u16, value: u64) -> Walk
         requires { (state_of self.old.core).spot ≡ Does (Tell device register (Number value)) (frames_of self.old.core.frames) }
-        ensures made { MakesStep (run_of self.old.source self.old.core (bus_state (λ d. (⟦<dyn Device as Device>⟧ d.vtable).meaning d.value) self.old.bus.boxes self.old.bus.transcript.items) self.old.cost self.old.end) result (run_of self.new.source self.new.core (bus_state (λ d. (⟦<dyn Device as Device>⟧ d.vtable).meaning d.value) self.new.bus.boxes self.new.bus.transcript.items) self.new.cost self.new.end) }
-        ensures law { (first : List (Option Meaning)) → BusLaw first (bus_state (λ d. (⟦<dyn Device as Device>⟧ d.vtable).meaning d.value) self.old.bus.boxes self.old.bus.transcript.items) → BusLaw first (bus_state (λ d. (⟦<dyn Device as Device>⟧ d.vtable).meaning d.value) self.new.bus.boxes self.new.bus.transcript.items) }
+        ensures made { MakesStep
+            (run_of self.old.source self.old.core
+            (bus_state (λ d. (⟦<dyn Device as Device>⟧ d.vtable).meaning d.value)
+            self.old.bus.boxes self.old.bus.transcript.items)
+            self.old.cost self.old.end)
+            result
+            (run_of self.new.source self.new.core
+            (bus_state (λ d. (⟦<dyn Device as Device>⟧ d.vtable).meaning d.value)
+            self.new.bus.boxes self.new.bus.transcript.items)
+            self.new.cost self.new.end) }
+        ensures law { (first : List (Option Meaning))
+            → BusLaw first
+            (bus_state (λ d. (⟦<dyn Device as Device>⟧ d.vtable).meaning d.value)
+            self.old.bus.boxes self.old.bus.transcript.items)
+            → BusLaw first
+            (bus_state (λ d. (⟦<dyn Device as Device>⟧ d.vtable).meaning d.value)
+            self.new.bus.boxes self.new.bus.transcript.items) }
     {
         if is_console(device, register) {
             return self.put(value);
@@ -227,8 +301,23 @@ impl<'p> Runner<'p> {
     /// Makes the store to the console that is the next step.
     fn put(&mut self, value: u64) -> Walk
         requires { (state_of self.old.core).spot ≡ Does (Tell 0 0 (Number value)) (frames_of self.old.core.frames) }
-        ensures made { MakesStep (run_of self.old.source self.old.core (bus_state (λ d. (⟦<dyn Device as Device>⟧ d.vtable).meaning d.value) self.old.bus.boxes self.old.bus.transcript.items) self.old.cost self.old.end) result (run_of self.new.source self.new.core (bus_state (λ d. (⟦<dyn Device as Device>⟧ d.vtable).meaning d.value) self.new.bus.boxes self.new.bus.transcript.items) self.new.cost self.new.end) }
-        ensures law { (first : List (Option Meaning)) → BusLaw first (bus_state (λ d. (⟦<dyn Device as Device>⟧ d.vtable).meaning d.value) self.old.bus.boxes self.old.bus.transcript.items) → BusLaw first (bus_state (λ d. (⟦<dyn Device as Device>⟧ d.vtable).meaning d.value) self.new.bus.boxes self.new.bus.transcript.items) }
+        ensures made { MakesStep
+            (run_of self.old.source self.old.core
+            (bus_state (λ d. (⟦<dyn Device as Device>⟧ d.vtable).meaning d.value)
+            self.old.bus.boxes self.old.bus.transcript.items)
+            self.old.cost self.old.end)
+            result
+            (run_of self.new.source self.new.core
+            (bus_state (λ d. (⟦<dyn Device as Device>⟧ d.vtable).meaning d.value)
+            self.new.bus.boxes self.new.bus.transcript.items)
+            self.new.cost self.new.end) }
+        ensures law { (first : List (Option Meaning))
+            → BusLaw first
+            (bus_state (λ d. (⟦<dyn Device as Device>⟧ d.vtable).meaning d.value)
+            self.old.bus.boxes self.old.bus.transcript.items)
+            → BusLaw first
+            (bus_state (λ d. (⟦<dyn Device as Device>⟧ d.vtable).meaning d.value)
+            self.new.bus.boxes self.new.bus.transcript.items) }
     {
         let op = DeviceOp {
             device: 0,
@@ -248,9 +337,28 @@ impl<'p> Runner<'p> {
 
     /// Makes the step that waits for an answer of the console.
     pub fn give(&mut self, answer: u64) -> Walk
-        requires { Waits (run_of self.old.source self.old.core (bus_state (λ d. (⟦<dyn Device as Device>⟧ d.vtable).meaning d.value) self.old.bus.boxes self.old.bus.transcript.items) self.old.cost self.old.end) }
-        ensures gave { Gave (run_of self.old.source self.old.core (bus_state (λ d. (⟦<dyn Device as Device>⟧ d.vtable).meaning d.value) self.old.bus.boxes self.old.bus.transcript.items) self.old.cost self.old.end) answer result (run_of self.new.source self.new.core (bus_state (λ d. (⟦<dyn Device as Device>⟧ d.vtable).meaning d.value) self.new.bus.boxes self.new.bus.transcript.items) self.new.cost self.new.end) }
-        ensures law { (first : List (Option Meaning)) → BusLaw first (bus_state (λ d. (⟦<dyn Device as Device>⟧ d.vtable).meaning d.value) self.old.bus.boxes self.old.bus.transcript.items) → BusLaw first (bus_state (λ d. (⟦<dyn Device as Device>⟧ d.vtable).meaning d.value) self.new.bus.boxes self.new.bus.transcript.items) }
+        requires { Waits
+            (run_of self.old.source self.old.core
+            (bus_state (λ d. (⟦<dyn Device as Device>⟧ d.vtable).meaning d.value)
+            self.old.bus.boxes self.old.bus.transcript.items)
+            self.old.cost self.old.end) }
+        ensures gave { Gave
+            (run_of self.old.source self.old.core
+            (bus_state (λ d. (⟦<dyn Device as Device>⟧ d.vtable).meaning d.value)
+            self.old.bus.boxes self.old.bus.transcript.items)
+            self.old.cost self.old.end)
+            answer result
+            (run_of self.new.source self.new.core
+            (bus_state (λ d. (⟦<dyn Device as Device>⟧ d.vtable).meaning d.value)
+            self.new.bus.boxes self.new.bus.transcript.items)
+            self.new.cost self.new.end) }
+        ensures law { (first : List (Option Meaning))
+            → BusLaw first
+            (bus_state (λ d. (⟦<dyn Device as Device>⟧ d.vtable).meaning d.value)
+            self.old.bus.boxes self.old.bus.transcript.items)
+            → BusLaw first
+            (bus_state (λ d. (⟦<dyn Device as Device>⟧ d.vtable).meaning d.value)
+            self.new.bus.boxes self.new.bus.transcript.items) }
     {
         // The thread may stand on the way to the step still.
         match self.core.settle() {
@@ -262,8 +370,23 @@ impl<'p> Runner<'p> {
     /// Makes the load of the console that is the next step.
     fn answer(&mut self, answer: u64) -> Walk
         requires { (state_of self.old.core).spot ≡ Does (Ask 0 0) (frames_of self.old.core.frames) }
-        ensures gave { Gave (run_of self.old.source self.old.core (bus_state (λ d. (⟦<dyn Device as Device>⟧ d.vtable).meaning d.value) self.old.bus.boxes self.old.bus.transcript.items) self.old.cost self.old.end) answer result (run_of self.new.source self.new.core (bus_state (λ d. (⟦<dyn Device as Device>⟧ d.vtable).meaning d.value) self.new.bus.boxes self.new.bus.transcript.items) self.new.cost self.new.end) }
-        ensures law { (first : List (Option Meaning)) → BusLaw first (bus_state (λ d. (⟦<dyn Device as Device>⟧ d.vtable).meaning d.value) self.old.bus.boxes self.old.bus.transcript.items) → BusLaw first (bus_state (λ d. (⟦<dyn Device as Device>⟧ d.vtable).meaning d.value) self.new.bus.boxes self.new.bus.transcript.items) }
+        ensures gave { Gave
+            (run_of self.old.source self.old.core
+            (bus_state (λ d. (⟦<dyn Device as Device>⟧ d.vtable).meaning d.value)
+            self.old.bus.boxes self.old.bus.transcript.items)
+            self.old.cost self.old.end)
+            answer result
+            (run_of self.new.source self.new.core
+            (bus_state (λ d. (⟦<dyn Device as Device>⟧ d.vtable).meaning d.value)
+            self.new.bus.boxes self.new.bus.transcript.items)
+            self.new.cost self.new.end) }
+        ensures law { (first : List (Option Meaning))
+            → BusLaw first
+            (bus_state (λ d. (⟦<dyn Device as Device>⟧ d.vtable).meaning d.value)
+            self.old.bus.boxes self.old.bus.transcript.items)
+            → BusLaw first
+            (bus_state (λ d. (⟦<dyn Device as Device>⟧ d.vtable).meaning d.value)
+            self.new.bus.boxes self.new.bus.transcript.items) }
     {
         let op = DeviceOp {
             device: 0,
@@ -299,13 +422,23 @@ impl<'p> Runner<'p> {
     pub fn unplug(&mut self, device: u16) -> bool
         requires { ⊤ }
         ensures there { IsTrue result ↔ IsSome (box_of device (map (option_map (λ d. (⟦<dyn Device as Device>⟧ d.vtable).meaning d.value)) self.old.bus.boxes)) }
-        ensures boxes { map (option_map (λ d. (⟦<dyn Device as Device>⟧ d.vtable).meaning d.value)) self.new.bus.boxes ≡ with_box device None (map (option_map (λ d. (⟦<dyn Device as Device>⟧ d.vtable).meaning d.value)) self.old.bus.boxes) }
+        ensures boxes { map (option_map (λ d. (⟦<dyn Device as Device>⟧ d.vtable).meaning d.value))
+            self.new.bus.boxes
+            ≡ with_box device None
+            (map (option_map (λ d. (⟦<dyn Device as Device>⟧ d.vtable).meaning d.value))
+            self.old.bus.boxes) }
         ensures transcript { self.new.bus.transcript ≡ self.old.bus.transcript }
         ensures source { self.new.source ≡ self.old.source }
         ensures core { self.new.core ≡ self.old.core }
         ensures cost { self.new.cost ≡ self.old.cost }
         ensures end { self.new.end ≡ self.old.end }
-        ensures law { (first : List (Option Meaning)) → BusLaw first (bus_state (λ d. (⟦<dyn Device as Device>⟧ d.vtable).meaning d.value) self.old.bus.boxes self.old.bus.transcript.items) → BusLaw first (bus_state (λ d. (⟦<dyn Device as Device>⟧ d.vtable).meaning d.value) self.new.bus.boxes self.new.bus.transcript.items) }
+        ensures law { (first : List (Option Meaning))
+            → BusLaw first
+            (bus_state (λ d. (⟦<dyn Device as Device>⟧ d.vtable).meaning d.value)
+            self.old.bus.boxes self.old.bus.transcript.items)
+            → BusLaw first
+            (bus_state (λ d. (⟦<dyn Device as Device>⟧ d.vtable).meaning d.value)
+            self.new.bus.boxes self.new.bus.transcript.items) }
     {
         self.bus.unplug(device)
     }

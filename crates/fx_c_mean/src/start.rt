@@ -75,7 +75,15 @@ fn add_global(
     number: u32,
     global: &TGlobal,
 ) -> Result<(), AllocError>
-    ensures { OnOk result (memory.new ≡ memory.old ++ live_object (GlobalPlace number) (size_in (program_of source.now.program.now) (ty_tree global.now.ty)) (first_cells (size_in (program_of source.now.program.now) (ty_tree global.now.ty)) global.now.init) ∷ []) }
+    ensures { OnOk result
+        (memory.new
+        ≡ memory.old
+        ++ live_object (GlobalPlace number)
+        (size_in (program_of source.now.program.now) (ty_tree global.now.ty))
+        (first_cells
+        (size_in (program_of source.now.program.now) (ty_tree global.now.ty))
+        global.now.init)
+        ∷ []) }
 {
     let size = source.size(&global.ty)?;
     let cells = global_cells(alloc, size, &global.init)?;

@@ -39,7 +39,10 @@ impl<'p> Core<'p> {
 
     /// A load of a type.
     pub fn load(&mut self, source: &Source<'p>, ty: &Ty, v: Value) -> Moved
-        ensures comes { Comes (loads (program_of source.now.program.now) source.now.rights (state_of self.old) (frames_of self.old.frames) (ty_tree ty.now) v) result (state_of self.old) (state_of self.new) }
+        ensures comes { Comes
+            (loads (program_of source.now.program.now) source.now.rights (state_of self.old)
+            (frames_of self.old.frames) (ty_tree ty.now) v)
+            result (state_of self.old) (state_of self.new) }
         ensures denied { KeepsWhereDenied result self.old.memory self.new.memory }
     {
         match self.memory.load(ty, v) {
@@ -53,7 +56,11 @@ impl<'p> Core<'p> {
 
     /// A store of a value of a type.
     pub fn store(&mut self, source: &Source<'p>, ty: &Ty, to: Value, v: Value) -> Moved
-        ensures comes { Comes (stores (program_of source.now.program.now) source.now.rights (state_of self.old) to (width (ty_tree ty.now)) (cells_of (width (ty_tree ty.now)) v) (follow (frames_of self.old.frames))) result (state_of self.old) (state_of self.new) }
+        ensures comes { Comes
+            (stores (program_of source.now.program.now) source.now.rights (state_of self.old)
+            to (width (ty_tree ty.now)) (cells_of (width (ty_tree ty.now)) v)
+            (follow (frames_of self.old.frames)))
+            result (state_of self.old) (state_of self.new) }
         ensures denied { KeepsWhereDenied result self.old.memory self.new.memory }
     {
         let n = width_of_type(ty);
@@ -79,7 +86,10 @@ impl<'p> Core<'p> {
         v: Value,
         done: u32,
     ) -> Moved
-        ensures comes { Comes (reads_byte (program_of source.now.program.now) source.now.rights (state_of self.old) (frames_of self.old.frames) (ty_tree ty.now) to v done) result (state_of self.old) (state_of self.new) }
+        ensures comes { Comes
+            (reads_byte (program_of source.now.program.now) source.now.rights
+            (state_of self.old) (frames_of self.old.frames) (ty_tree ty.now) to v done)
+            result (state_of self.old) (state_of self.new) }
         ensures denied { KeepsWhereDenied result self.old.memory self.new.memory }
     {
         let Some(from) = further(v, done) else {
@@ -107,7 +117,12 @@ impl<'p> Core<'p> {
         done: u32,
         cell: Cell,
     ) -> Moved
-        ensures comes { Comes (stores (program_of source.now.program.now) source.now.rights (state_of self.old) (goes_on to done) 1 (cell ∷ []) (follows_byte (program_of source.now.program.now) (frames_of self.old.frames) (ty_tree ty.now) to v (done + 1))) result (state_of self.old) (state_of self.new) }
+        ensures comes { Comes
+            (stores (program_of source.now.program.now) source.now.rights (state_of self.old)
+            (goes_on to done) 1 (cell ∷ [])
+            (follows_byte (program_of source.now.program.now) (frames_of self.old.frames)
+            (ty_tree ty.now) to v (done + 1)))
+            result (state_of self.old) (state_of self.new) }
         ensures denied { KeepsWhereDenied result self.old.memory self.new.memory }
     {
         let Some(target) = further(to, done) else {

@@ -31,7 +31,10 @@ impl<'p> Core<'p> {
     pub fn perform(&mut self, source: &Source<'p>, act: Act<'p>, known: Option<StackUse>) -> Moved
         requires act { NeedsNoDevice act }
         requires known { IsKnown (program_of source.now.program.now) source.now.rights known (frames_of self.old.frames) }
-        ensures comes { Comes (perform (program_of source.now.program.now) source.now.rights 0 (state_of self.old) (Does (act_of act.entry) (frames_of self.old.frames))) result (state_of self.old) (state_of self.new) }
+        ensures comes { Comes
+            (perform (program_of source.now.program.now) source.now.rights 0
+            (state_of self.old) (Does (act_of act.entry) (frames_of self.old.frames)))
+            result (state_of self.old) (state_of self.new) }
         ensures denied { KeepsByAccess act.entry result self.old.memory self.new.memory }
     {
         match act {
@@ -117,7 +120,11 @@ impl<'p> Core<'p> {
 
     /// The place of a member of a struct.
     fn step_to_member(&mut self, source: &Source<'p>, ty: &Ty, member: u32, v: Value) -> Moved
-        ensures { Comes (gives_result (state_of self.old) (frames_of self.old.frames) (moved self.old.memory v (member_of (program_of source.now.program.now) (ty_tree ty.now) member))) result (state_of self.old) (state_of self.new) }
+        ensures { Comes
+            (gives_result (state_of self.old) (frames_of self.old.frames)
+            (moved self.old.memory v
+            (member_of (program_of source.now.program.now) (ty_tree ty.now) member)))
+            result (state_of self.old) (state_of self.new) }
     {
         match source.member(ty, member) {
             Ok(offset) => {
@@ -138,7 +145,11 @@ impl<'p> Core<'p> {
         v: Value,
         w: Value,
     ) -> Moved
-        ensures { Comes (gives_result (state_of self.old) (frames_of self.old.frames) (binary_result (struct_types source.now.program.now.structs) self.old.memory op (ty_tree first.now) (ty_tree second.now) v w)) result (state_of self.old) (state_of self.new) }
+        ensures { Comes
+            (gives_result (state_of self.old) (frames_of self.old.frames)
+            (binary_result (struct_types source.now.program.now.structs) self.old.memory
+            op (ty_tree first.now) (ty_tree second.now) v w))
+            result (state_of self.old) (state_of self.new) }
     {
         match self.combined(source, op, first, second, v, w) {
             Ok(result_of) => self.give_result(result_of),

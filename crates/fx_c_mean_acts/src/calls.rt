@@ -152,7 +152,12 @@ impl<'p> Core<'p> {
         known: Option<StackUse>,
     ) -> Moved
         requires { IsKnown (program_of source.now.program.now) source.now.rights known (frames_of self.old.frames) }
-        ensures { Comes (enter (program_of source.now.program.now) source.now.rights (state_of self.old) f (values_of values) (waiting_for (program_of source.now.program.now) source.now.rights (way_of way) f (call_of self.old.call) (frames_of self.old.frames))) result (state_of self.old) (state_of self.new) }
+        ensures { Comes
+            (enter (program_of source.now.program.now) source.now.rights (state_of self.old) f
+            (values_of values)
+            (waiting_for (program_of source.now.program.now) source.now.rights
+            (way_of way) f (call_of self.old.call) (frames_of self.old.frames)))
+            result (state_of self.old) (state_of self.new) }
     {
         let waiting = waiting(source, way, self.call.function, f);
         if !self.has_room(source, f, waiting, known) {
@@ -248,7 +253,13 @@ fn make_objects(
     f: u32,
     values: &Values,
 ) -> Result<(), AllocError>
-    ensures { MatchResult result (λ _. memory.new ≡ memory.old ++ call_objects (program_of source.now.program.now) f 0 (function_at (program_of source.now.program.now) f).variables (values_of values.now)) (λ _. memory.new ≡ memory.old) }
+    ensures { MatchResult result
+        (λ _. memory.new
+        ≡ memory.old
+        ++ call_objects (program_of source.now.program.now) f 0
+        (function_at (program_of source.now.program.now) f).variables
+        (values_of values.now))
+        (λ _. memory.new ≡ memory.old) }
 {
     let base = memory.len();
     let made = add_objects(memory, alloc, source, f, values);
@@ -265,7 +276,13 @@ fn add_objects(
     f: u32,
     values: &Values,
 ) -> Result<(), AllocError>
-    ensures { MatchResult result (λ _. memory.new ≡ memory.old ++ call_objects (program_of source.now.program.now) f 0 (function_at (program_of source.now.program.now) f).variables (values_of values.now)) (λ _. take (length memory.old) memory.new ≡ memory.old) }
+    ensures { MatchResult result
+        (λ _. memory.new
+        ≡ memory.old
+        ++ call_objects (program_of source.now.program.now) f 0
+        (function_at (program_of source.now.program.now) f).variables
+        (values_of values.now))
+        (λ _. take (length memory.old) memory.new ≡ memory.old) }
 {
     let mut local: u16 = 0;
     for variable in source.variables(f) {

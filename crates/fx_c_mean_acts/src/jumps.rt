@@ -113,7 +113,11 @@ impl<'p> Core<'p> {
 
     /// A branch is chosen.
     pub fn branch(&mut self, v: Value, s: &'p TStmt) -> Moved
-        ensures { Comes (at (state_of self.old) (branch (is_true v) (first_branch (tstmt_tree s.now)) (second_branch (tstmt_tree s.now)) (frames_of self.old.frames))) result (state_of self.old) (state_of self.new) }
+        ensures { Comes
+            (at (state_of self.old)
+            (branch (is_true v) (first_branch (tstmt_tree s.now))
+            (second_branch (tstmt_tree s.now)) (frames_of self.old.frames)))
+            result (state_of self.old) (state_of self.new) }
     {
         self.here = branch_of(s, holds(v));
         Moved::Went

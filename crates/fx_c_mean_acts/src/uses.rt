@@ -105,7 +105,9 @@ impl<'p> Core<'p> {
         known: Option<StackUse>,
     ) -> Option<StackUse>
         requires { IsKnown (program_of source.now.program.now) source.now.rights known (frames_of self.now.frames) }
-        ensures { IsKnown (program_of source.now.program.now) source.now.rights result (waiting_for (program_of source.now.program.now) source.now.rights (way_of way) f (call_of self.now.call) (frames_of self.now.frames)) }
+        ensures { IsKnown (program_of source.now.program.now) source.now.rights result
+            (waiting_for (program_of source.now.program.now) source.now.rights (way_of way) f
+            (call_of self.now.call) (frames_of self.now.frames)) }
     {
         let Some(crosses) = waiting(source, way, self.call.function, f) else {
             return known;

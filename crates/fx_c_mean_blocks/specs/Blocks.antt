@@ -1,6 +1,9 @@
 -- Memory as a list of objects: what an access reads, what it writes, and where pointers lead. An object's
 -- number is its place in the list; it keeps it when it dies. After C11 3.15, 6.2.4, 6.2.6 and 6.5.6.
-use Rattle.std.specs.Prelude.{ℕ, zero, suc, ◌+◌, ◌*◌, ◌/◌, ◌%◌, Bool, true, false, not, ◌&&◌, nat_eq, nat_le, int_lt, int_le, ℤ, pos, ◌+ℤ◌, nat_abs, List, [], ◌∷◌, take, drop, slice_get, slice_index_or, slice_set, Option, Some, None, option_map, Result, Ok, Err, if◌then◌else◌}
+use Rattle.std.specs.Prelude.{ℕ, zero, suc, ◌+◌, ◌*◌, ◌/◌, ◌%◌, Bool, true, false, not, ◌&&◌}
+use Rattle.std.specs.Prelude.{nat_eq, nat_le, int_lt, int_le, ℤ, pos, ◌+ℤ◌, nat_abs, List, [], ◌∷◌}
+use Rattle.std.specs.Prelude.{take, drop, slice_get, slice_index_or, slice_set, Option, Some, None}
+use Rattle.std.specs.Prelude.{option_map, Result, Ok, Err, if◌then◌else◌}
 use Rattle.fx_c_ast.specs.CheckedTrees.{TyTree, IntTy, PtrTy}
 use Rattle.fx_c_ast.specs.Layout.{integer_size}
 use Rattle.fx_c_mean_blocks.specs.declared.value.Pointer.{Pointer}

@@ -2,7 +2,9 @@
 use Rattle.std.specs.Prelude.{ℕ, List, [], ◌∷◌, take, Option, Some, None, Box}
 use Rattle.std.specs.Global.{Global}
 use Rattle.fx_c_ast.specs.declared.checked.TStmt.{TStmt}
-use Rattle.fx_c_ast.specs.CheckedTrees.{TExprTrees, NoTExprs, MoreTExprs, TStmtTree, SEmpty, SIf, SWhile, SFor, MaybeTStmt, NoTStmt, OneTStmt, ty_tree, texpr_tree, texpr_trees, tstmt_tree, tstmt_trees}
+use Rattle.fx_c_ast.specs.CheckedTrees.{TExprTrees, NoTExprs, MoreTExprs, TStmtTree, SEmpty, SIf}
+use Rattle.fx_c_ast.specs.CheckedTrees.{SWhile, SFor, MaybeTStmt, NoTStmt, OneTStmt, ty_tree}
+use Rattle.fx_c_ast.specs.CheckedTrees.{texpr_tree, texpr_trees, tstmt_tree, tstmt_trees}
 use Rattle.fx_c_mean_blocks.specs.declared.value.Value.{Value}
 use Rattle.fx_c_mean_model.specs.States as states
 use Rattle.fx_c_mean_model.specs.States.{Spot, Does, start, reach, give, begin, begin_all, follow, begin_loop, begin_body, loop_body, after_body}

@@ -123,7 +123,11 @@ fn start<'p>(frames: &mut Frames<'p>, e: &'p TExpr) -> Result<Now<'p>, AllocErro
 
 /// A conversion, which is none where the types are one.
 fn converting<'p>(frames: &mut Frames<'p>, e: &'p TExpr, to: &'p Ty) -> Result<Now<'p>, AllocError>
-    ensures { MatchResult result (λ now. spot_of now (frames_of frames.new) ≡ starts (texpr_tree e.now) (converts (typed (texpr_tree e.now)) (ty_tree to.now) (frames_of frames.old))) (λ _. frames.new ≡ frames.old) }
+    ensures { MatchResult result
+        (λ now. spot_of now (frames_of frames.new)
+        ≡ starts (texpr_tree e.now)
+        (converts (typed (texpr_tree e.now)) (ty_tree to.now) (frames_of frames.old)))
+        (λ _. frames.new ≡ frames.old) }
 {
     let from = type_of(e);
     if is_same_type(from, to) {
@@ -375,7 +379,11 @@ fn give_argument<'p>(
     v: Value,
 ) -> Result<Now<'p>, AllocError>
     requires { frames.old ≢ [] }
-    ensures { MatchResult result (λ now. spot_of now (frames_of frames.new) ≡ argued function (way_of way) (values_of before ++ v ∷ []) (texpr_trees more.now) (frames_of (drop 1 frames.old))) (λ _. frames.new ≡ frames.old) }
+    ensures { MatchResult result
+        (λ now. spot_of now (frames_of frames.new)
+        ≡ argued function (way_of way) (values_of before ++ v ∷ [])
+        (texpr_trees more.now) (frames_of (drop 1 frames.old)))
+        (λ _. frames.new ≡ frames.old) }
 {
     let Some(values) = with_value(before, v) else {
         return Err(AllocError);

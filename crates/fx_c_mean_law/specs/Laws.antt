@@ -21,7 +21,10 @@ pub record Advances (p : Program) (r : Rights) (old new : Run) (n spent budget :
   pub begun : old.cost < budget → budget < 2 ^ 64 → BegunBelow p r budget old.bus.transcript n → BegunBelow p r budget new.bus.transcript (n + 1)
 
 abbrev pub GoesOnByRun : Type 0
-GoesOnByRun = (p : Program) (r : Rights) (old new : Run) (n spent budget answer : ℕ) (walk : Walk) → Reached p r old n spent → (went : GoesOn old answer walk new) → Advances p r old new n spent budget answer walk went
+GoesOnByRun =
+    (p : Program) (r : Rights) (old new : Run) (n spent budget answer : ℕ) (walk : Walk)
+    → Reached p r old n spent → (went : GoesOn old answer walk new)
+    → Advances p r old new n spent budget answer walk went
 
 -- a run that stands still has come to what it made; one that ends has come to its end with its last step
 abbrev pub StandsByRun : Type 0

@@ -10,7 +10,14 @@ use Rattle.fx_c_ast.specs.declared.operator.Unop.{Unop}
 use Rattle.fx_c_ast.specs.declared.operator.Unop.TheVariants.{Deref, Addr}
 use Rattle.fx_c_ast.specs.declared.operator.Binop.{Binop}
 use Rattle.fx_c_ast.specs.declared.operator.Binop.TheVariants.{Add, Land, Lor}
-use Rattle.fx_c_ast.specs.CheckedTrees.{TyTree, VoidTy, IntTy, StructTy, PtrTy, ArrayTy, TExprTree, ENumber, ELiteral, EGlobal, ELocal, EUn, EBin, ECast, EConvert, ESize, EIndex, EMember, EArrow, ECall, EGate, EGetc, EPutc, EDevLoad, EDevStore, ESpawn, ESwitch, EMe, TExprTrees, NoTExprs, MoreTExprs, TStmtTree, SEmpty, SBlock, SLocal, SEval, SAssign, SIf, SWhile, SFor, SBreak, SContinue, SReturn, TStmtTrees, NoTStmts, MoreTStmts, MaybeTStmt, NoTStmt, OneTStmt}
+use Rattle.fx_c_ast.specs.CheckedTrees.{TyTree, VoidTy, IntTy, StructTy, PtrTy, ArrayTy, TExprTree}
+use Rattle.fx_c_ast.specs.CheckedTrees.{ENumber, ELiteral, EGlobal, ELocal, EUn, EBin, ECast}
+use Rattle.fx_c_ast.specs.CheckedTrees.{EConvert, ESize, EIndex, EMember, EArrow, ECall, EGate}
+use Rattle.fx_c_ast.specs.CheckedTrees.{EGetc, EPutc, EDevLoad, EDevStore, ESpawn, ESwitch, EMe}
+use Rattle.fx_c_ast.specs.CheckedTrees.{TExprTrees, NoTExprs, MoreTExprs, TStmtTree, SEmpty, SBlock}
+use Rattle.fx_c_ast.specs.CheckedTrees.{SLocal, SEval, SAssign, SIf, SWhile, SFor, SBreak}
+use Rattle.fx_c_ast.specs.CheckedTrees.{SContinue, SReturn, TStmtTrees, NoTStmts, MoreTStmts}
+use Rattle.fx_c_ast.specs.CheckedTrees.{MaybeTStmt, NoTStmt, OneTStmt}
 use Rattle.fx_word_ops.specs.Words.{bit_count}
 use Rattle.fx_c_mean_blocks.specs.Integers.{width_of, is_signed}
 use Rattle.fx_c_mean_blocks.specs.declared.value.Value.{Value}

@@ -21,7 +21,14 @@ use Rattle.fx_c_mean_blocks.specs.Operators.{unary_result, conversion, binary_re
 use Rattle.fx_c_mean_model.specs.declared.rights.Rights.{Rights}
 use Rattle.fx_c_mean_model.specs.Programs.{Program, function_at, size_in, offset_of, first_memory, call_objects}
 use Rattle.fx_c_mean_model.specs.Rights.{home, may, stack_of, stack_size}
-use Rattle.fx_c_mean_model.specs.States.{Loop, Way, Plainly, ByGate, First, Call, Frame, Truth, Caller, Spot, Does, Push, SizeOf, GlobalAddress, LiteralAddress, LocalAddress, Load, Apply, Convert, Step, Combine, Decide, Judge, Enter, Ask, Tell, Spawn, Switch, Self, Store, ReadByte, WriteByte, Branch, Test, JumpBack, Break, Continue, Leave, FallOff, Stuck, start, begin, begin_maybe, begin_all, follow, begin_loop, begin_body, loop_body, after_loop, next_round, unwind, give}
+use Rattle.fx_c_mean_model.specs.States.{Loop, Way, Plainly, ByGate, First, Call, Frame, Truth}
+use Rattle.fx_c_mean_model.specs.States.{Caller, Spot, Does, Push, SizeOf, GlobalAddress}
+use Rattle.fx_c_mean_model.specs.States.{LiteralAddress, LocalAddress, Load, Apply, Convert, Step}
+use Rattle.fx_c_mean_model.specs.States.{Combine, Decide, Judge, Enter, Ask, Tell, Spawn, Switch}
+use Rattle.fx_c_mean_model.specs.States.{Self, Store, ReadByte, WriteByte, Branch, Test, JumpBack}
+use Rattle.fx_c_mean_model.specs.States.{Break, Continue, Leave, FallOff, Stuck, start, begin}
+use Rattle.fx_c_mean_model.specs.States.{begin_maybe, begin_all, follow, begin_loop, begin_body}
+use Rattle.fx_c_mean_model.specs.States.{loop_body, after_loop, next_round, unwind, give}
 
 -- a thread that was made: it runs now, it waits at a spot of a call, or it has ended
 pub data Thread : Type 0 where

@@ -20,7 +20,8 @@ pub record Names (p : Program) (r : Rights) (k : Config) (at : Placement) (image
   pub steps : ℕ
   pub compartment : ℕ
   pub write : Bool
-  pub ends : step p r 0 (state_at p r answers steps) ≡ Stops [] (Denied compartment object offset write)
+  pub ends : step p r 0 (state_at p r answers steps)
+      ≡ Stops [] (Denied compartment object offset write)
   pub address : ℕ
   pub stands : address_of p r k at (state_at p r answers steps) object ≡ Some address
   pub there : object_at image (address + offset) ≡ found

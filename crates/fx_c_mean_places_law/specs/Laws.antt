@@ -1,5 +1,6 @@
 -- What the places of the source's objects mean.
-use Rattle.std.specs.Prelude.{◌≡◌, ◌≢◌, ℕ, ◌+◌, ◌<◌, ◌≤◌, ◌⊎◌, true, List, length, slice_get, Some, Ok}
+use Rattle.std.specs.Prelude.{◌≡◌, ◌≢◌, ℕ, ◌+◌, ◌<◌, ◌≤◌, ◌⊎◌, true, List, length, slice_get, Some}
+use Rattle.std.specs.Prelude.{Ok}
 use Rattle.fx_config.specs.declared.configuration.Config.{Config}
 use Rattle.fx_image.specs.declared.find.Found.{Found}
 use Rattle.fx_image.specs.declared.forms.Image.{Image}
@@ -39,7 +40,8 @@ IsGoing (Does act rest) = Unit {0}
 -- a step follows in each thread
 pub record AllGoOn (s : State) : Type 0 where
   pub here : IsGoing s.spot
-  pub there : (t : ℕ) (spot : Spot) (call : Call) → slice_get s.threads t ≡ Some (Waiting spot call) → IsGoing spot
+  pub there : (t : ℕ) (spot : Spot) (call : Call) → slice_get s.threads t ≡ Some (Waiting spot call)
+      → IsGoing spot
 
 -- ---- addresses
 
@@ -51,37 +53,50 @@ AreApart a m b n = (a + m ≤ b) ⊎ (b + n ≤ a)
 abbrev pub LiveObjectsStand : Type 0
 LiveObjectsStand =
     (p : TProgram) (g : Grants) (k : Config) (at : Placement) → IsPlacedAt p g k at
-    → (r : Rights) (answers : List ℕ) (steps : ℕ) → AllGoOn (state_at (program_of p) r answers steps)
-    → (i : ℕ) (o : Object) → slice_get (state_at (program_of p) r answers steps).memory i ≡ Some o → o.live ≡ true
-    → (a : ℕ) × (address_of (program_of p) r k at (state_at (program_of p) r answers steps) i ≡ Some a)
+    → (r : Rights) (answers : List ℕ) (steps : ℕ)
+    → AllGoOn (state_at (program_of p) r answers steps)
+    → (i : ℕ) (o : Object) → slice_get (state_at (program_of p) r answers steps).memory i ≡ Some o
+    → o.live ≡ true
+    → (a : ℕ)
+    × (address_of (program_of p) r k at (state_at (program_of p) r answers steps) i ≡ Some a)
 
 -- two objects of a state of a run that stand somewhere have no byte in common
 abbrev pub ObjectsStandApart : Type 0
 ObjectsStandApart =
     (p : TProgram) (g : Grants) (k : Config) (at : Placement) → IsPlacedAt p g k at
-    → (r : Rights) → AreOf (program_of p) k r → (answers : List ℕ) (steps i j : ℕ) → i ≢ j → (o u : Object) (a b : ℕ)
-    → slice_get (state_at (program_of p) r answers steps).memory i ≡ Some o → slice_get (state_at (program_of p) r answers steps).memory j ≡ Some u
+    → (r : Rights) → AreOf (program_of p) k r → (answers : List ℕ) (steps i j : ℕ) → i ≢ j
+    → (o u : Object) (a b : ℕ)
+    → slice_get (state_at (program_of p) r answers steps).memory i ≡ Some o
+    → slice_get (state_at (program_of p) r answers steps).memory j ≡ Some u
     → address_of (program_of p) r k at (state_at (program_of p) r answers steps) i ≡ Some a
-    → address_of (program_of p) r k at (state_at (program_of p) r answers steps) j ≡ Some b → AreApart a o.size b u.size
+    → address_of (program_of p) r k at (state_at (program_of p) r answers steps) j ≡ Some b
+    → AreApart a o.size b u.size
 
 -- an address is that of one byte of one object
 abbrev pub BytesHaveOneAddress : Type 0
 BytesHaveOneAddress =
     (p : TProgram) (g : Grants) (k : Config) (at : Placement) → IsPlacedAt p g k at
-    → (r : Rights) → AreOf (program_of p) k r → (answers : List ℕ) (steps i j m n : ℕ) (o u : Object) (a b : ℕ)
-    → slice_get (state_at (program_of p) r answers steps).memory i ≡ Some o → slice_get (state_at (program_of p) r answers steps).memory j ≡ Some u
+    → (r : Rights) → AreOf (program_of p) k r
+    → (answers : List ℕ) (steps i j m n : ℕ) (o u : Object) (a b : ℕ)
+    → slice_get (state_at (program_of p) r answers steps).memory i ≡ Some o
+    → slice_get (state_at (program_of p) r answers steps).memory j ≡ Some u
     → address_of (program_of p) r k at (state_at (program_of p) r answers steps) i ≡ Some a
     → address_of (program_of p) r k at (state_at (program_of p) r answers steps) j ≡ Some b
     → m < o.size → n < u.size → a + m ≡ b + n → (i ≡ j) × (m ≡ n)
 
 -- the rights of a resolved configuration are its own
 abbrev pub ResolvedRightsAreOf : Type 0
-ResolvedRightsAreOf = (p : TProgram) (k : Config) (g : Grants) → 0 < length k.compartments → resolved p k ≡ Ok g → AreOf (program_of p) k (rights_of g)
+ResolvedRightsAreOf =
+    (p : TProgram) (k : Config) (g : Grants) → 0 < length k.compartments → resolved p k ≡ Ok g
+    → AreOf (program_of p) k (rights_of g)
 
 -- ---- names
 
 -- for one run, at most one place of an image is named, and it stands for one byte of one object
 abbrev pub NamesAreOne : Type 0
 NamesAreOne =
-    (p : Program) (r : Rights) (k : Config) (at : Placement) (image : Image) (answers : List ℕ) (found other : Found) (object offset that byte : ℕ)
-    → Names p r k at image answers found object offset → Names p r k at image answers other that byte → (found ≡ other) × (object ≡ that) × (offset ≡ byte)
+    (p : Program) (r : Rights) (k : Config) (at : Placement) (image : Image) (answers : List ℕ)
+    (found other : Found) (object offset that byte : ℕ)
+    → Names p r k at image answers found object offset
+    → Names p r k at image answers other that byte
+    → (found ≡ other) × (object ≡ that) × (offset ≡ byte)

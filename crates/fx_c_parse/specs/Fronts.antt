@@ -4,7 +4,12 @@ use Rattle.fx_c_ast.specs.declared.operator.Unop.{Unop}
 use Rattle.fx_c_ast.specs.declared.operator.Unop.TheVariants.{Neg, Not, Lnot, Deref, Addr}
 use Rattle.fx_c_ast.specs.declared.operator.Binop.{Binop}
 use Rattle.fx_c_ast.specs.declared.operator.Binop.TheVariants.{Add, Sub, Mul, Div, Rem, Shl, Shr, Lt, Gt, Le, Ge, Eq, Ne, And, Xor, Or, Land, Lor}
-use Rattle.fx_c_lex.specs.declared.sign.TheConstants.{OPEN_PAREN, OPEN_BRACE, OPEN_BRACKET, SEMICOLON, DOT, ARROW, EQUAL, NOT_EQUAL, LESS, GREATER, LESS_EQUAL, GREATER_EQUAL, SHIFT_LEFT, SHIFT_RIGHT, PLUS, MINUS, STAR, SLASH, PERCENT, AMPERSAND, BAR, CARET, TILDE, BANG, AND_AND, BAR_BAR}
+use Rattle.fx_c_lex.specs.declared.sign.TheConstants.{OPEN_PAREN, OPEN_BRACE, OPEN_BRACKET}
+use Rattle.fx_c_lex.specs.declared.sign.TheConstants.{SEMICOLON, DOT, ARROW, EQUAL, NOT_EQUAL, LESS}
+use Rattle.fx_c_lex.specs.declared.sign.TheConstants.{GREATER, LESS_EQUAL, GREATER_EQUAL}
+use Rattle.fx_c_lex.specs.declared.sign.TheConstants.{SHIFT_LEFT, SHIFT_RIGHT, PLUS, MINUS, STAR}
+use Rattle.fx_c_lex.specs.declared.sign.TheConstants.{SLASH, PERCENT, AMPERSAND, BAR, CARET, TILDE}
+use Rattle.fx_c_lex.specs.declared.sign.TheConstants.{BANG, AND_AND, BAR_BAR}
 use Rattle.fx_c_lex.specs.declared.keyword.TheConstants as word
 use Rattle.fx_c_parse.specs.declared.front.Operator.{Operator}
 use Rattle.fx_c_parse.specs.declared.front.UnaryFront.{UnaryFront}

@@ -1,6 +1,9 @@
 -- Statements.
 use Rattle.std.specs.Prelude.{ℕ, zero, suc, ◌+◌, List, length, Option, Some, None, if◌then◌else◌}
-use Rattle.fx_c_ast.specs.ParsedTrees.{TypeTree, ExprTree, StmtTree, EmptyTree, BlockTree, LocalTree, EvalTree, AssignTree, IfTree, WhileTree, ForTree, BreakTree, ContinueTree, ReturnTree, StmtTrees, NoStmts, MaybeStmt, Absent, Present}
+use Rattle.fx_c_ast.specs.ParsedTrees.{TypeTree, ExprTree, StmtTree, EmptyTree, BlockTree}
+use Rattle.fx_c_ast.specs.ParsedTrees.{LocalTree, EvalTree, AssignTree, IfTree, WhileTree, ForTree}
+use Rattle.fx_c_ast.specs.ParsedTrees.{BreakTree, ContinueTree, ReturnTree, StmtTrees, NoStmts}
+use Rattle.fx_c_ast.specs.ParsedTrees.{MaybeStmt, Absent, Present}
 use Rattle.fx_c_lex.specs.declared.sign.TheConstants.{OPEN_PAREN, CLOSE_PAREN, CLOSE_BRACE, SEMICOLON, ASSIGN}
 use Rattle.fx_c_lex.specs.declared.keyword.TheConstants.{SHARED, ELSE}
 use Rattle.fx_c_parse.specs.declared.front.StatementFront.{StatementFront}
@@ -84,7 +87,12 @@ statements_by item ws = turns (statement_turn item) (length ws + 1) NoStmts ws >
 
 -- behind `if`: `else` belongs to the nearest
 abbrev pub conditional_by : (List Word → Option (StmtTree × List Word)) → List Word → Option (StmtTree × List Word)
-conditional_by item ws = condition_of ws >>= λ t. item t.1 >>= λ s. (if has_keyword ELSE s.1 then (item (tail s.1) >>= λ o. Some (IfTree t.0 s.0 (Present o.0), o.1)) else Some (IfTree t.0 s.0 Absent, s.1))
+conditional_by item ws =
+    condition_of ws
+    >>= λ t. item t.1
+    >>= λ s. (if has_keyword ELSE s.1
+    then (item (tail s.1) >>= λ o. Some (IfTree t.0 s.0 (Present o.0), o.1))
+    else Some (IfTree t.0 s.0 Absent, s.1))
 
 -- behind `while`
 abbrev pub repetition_by : (List Word → Option (StmtTree × List Word)) → List Word → Option (StmtTree × List Word)

@@ -29,7 +29,10 @@ pub data IsNextName : List Word → List ℕ → List Word → Type 0 where
 pub data IsGrant : ℕ → List Word → Grant → List Word → Type 0 where
   no_grant : {word : ℕ} {rest : List Word} → IsGrant word rest Private rest
   grant_all : {word : ℕ} {rest : List Word} → IsGrant word (KeywordWord word ∷ SignWord OPEN_PAREN ∷ SignWord STAR ∷ SignWord CLOSE_PAREN ∷ rest) All rest
-  grant_some : {word : ℕ} {name : List ℕ} {names : List (List ℕ)} {a : List Word} {rest : List Word} → IsList IsNextName a names (SignWord CLOSE_PAREN ∷ rest) → IsGrant word (KeywordWord word ∷ SignWord OPEN_PAREN ∷ NameWord name ∷ a) (Libraries (name ∷ names)) rest
+  grant_some : {word : ℕ} {name : List ℕ} {names : List (List ℕ)} {a : List Word} {rest : List Word}
+      → IsList IsNextName a names (SignWord CLOSE_PAREN ∷ rest)
+      → IsGrant word (KeywordWord word ∷ SignWord OPEN_PAREN ∷ NameWord name ∷ a)
+      (Libraries (name ∷ names)) rest
 
 -- `=` and a constant, or nothing
 pub data IsInitial : List Word → Init → List Word → Type 0 where
@@ -45,7 +48,10 @@ pub data IsEntry : List Word → Bool → List Word → Type 0 where
   entry : {rest : List Word} → IsEntry (KeywordWord ENTRY ∷ rest) true rest
 
 pub data IsParameter : List Word → ParamTree → List Word → Type 0 where
-  parameter : {n : ℕ} {ws a : List Word} {s : Bool} {t : TypeTree} {name : List ℕ} {rest : List Word} → IsShared ws s a → IsPointerType n a t (NameWord name ∷ rest) → n ≤ nesting → IsParameter ws (record { shared = s; ty = t; name = name }) rest
+  parameter : {n : ℕ} {ws a : List Word} {s : Bool} {t : TypeTree} {name : List ℕ}
+      {rest : List Word}
+      → IsShared ws s a → IsPointerType n a t (NameWord name ∷ rest) → n ≤ nesting
+      → IsParameter ws (record { shared = s; ty = t; name = name }) rest
 
 pub data IsNextParameter : List Word → ParamTree → List Word → Type 0 where
   next_parameter : {a : List Word} {p : ParamTree} {rest : List Word} → IsParameter a p rest → IsNextParameter (SignWord COMMA ∷ a) p rest
@@ -58,9 +64,21 @@ pub data IsParameters : List Word → List ParamTree → List Word → Type 0 wh
 
 -- a declaration within nesting; a function's own block is no node
 pub data IsDeclaration : List Word → DeclTree → List Word → Type 0 where
-  structure : {a b : List Word} {name : List ℕ} {m : TypeTree × List ℕ} {ms : List (TypeTree × List ℕ)} {rest : List Word} → IsMember a m b → IsList IsMember b ms (SignWord CLOSE_BRACE ∷ SignWord SEMICOLON ∷ rest) → IsDeclaration (KeywordWord STRUCT ∷ NameWord name ∷ SignWord OPEN_BRACE ∷ a) (StructTree name (m ∷ ms)) rest
-  global : {ws a b c : List Word} {g r : Grant} {t : TypeTree} {name : List ℕ} {i : Init} {rest : List Word} → IsGrant SHARED ws g a → IsGrant READ a r b → IsDeclarator b t name c → IsInitial c i (SignWord SEMICOLON ∷ rest) → IsDeclaration ws (GlobalTree g r t name i) rest
-  function : {n h : ℕ} {ws a b c : List Word} {e : Bool} {t : TypeTree} {name : List ℕ} {ps : List ParamTree} {ss : StmtTrees} {rest : List Word} → IsEntry ws e a → IsPointerType n a t (NameWord name ∷ SignWord OPEN_PAREN ∷ b) → n ≤ nesting → IsParameters b ps (SignWord CLOSE_PAREN ∷ SignWord OPEN_BRACE ∷ c) → IsStatements c ss h (SignWord CLOSE_BRACE ∷ rest) → h ≤ nesting → IsDeclaration ws (FunctionTree e t name ps ss) rest
+  structure : {a b : List Word} {name : List ℕ} {m : TypeTree × List ℕ}
+      {ms : List (TypeTree × List ℕ)} {rest : List Word}
+      → IsMember a m b → IsList IsMember b ms (SignWord CLOSE_BRACE ∷ SignWord SEMICOLON ∷ rest)
+      → IsDeclaration (KeywordWord STRUCT ∷ NameWord name ∷ SignWord OPEN_BRACE ∷ a)
+      (StructTree name (m ∷ ms)) rest
+  global : {ws a b c : List Word} {g r : Grant} {t : TypeTree} {name : List ℕ} {i : Init}
+      {rest : List Word}
+      → IsGrant SHARED ws g a → IsGrant READ a r b → IsDeclarator b t name c
+      → IsInitial c i (SignWord SEMICOLON ∷ rest) → IsDeclaration ws (GlobalTree g r t name i) rest
+  function : {n h : ℕ} {ws a b c : List Word} {e : Bool} {t : TypeTree} {name : List ℕ}
+      {ps : List ParamTree} {ss : StmtTrees} {rest : List Word}
+      → IsEntry ws e a → IsPointerType n a t (NameWord name ∷ SignWord OPEN_PAREN ∷ b) → n ≤ nesting
+      → IsParameters b ps (SignWord CLOSE_PAREN ∷ SignWord OPEN_BRACE ∷ c)
+      → IsStatements c ss h (SignWord CLOSE_BRACE ∷ rest) → h ≤ nesting
+      → IsDeclaration ws (FunctionTree e t name ps ss) rest
 
 -- a file: declarations and nothing behind them
 abbrev pub IsUnit : List Word → List DeclTree → Type 0

@@ -2,10 +2,24 @@
 --
 -- Each judgement takes what is there before a node to the checked node and what is there after it, or to the first
 -- rule that is violated: nodes in postorder, from left to right, and at a node the rules in their order.
-use Rattle.std.specs.Prelude.{ℕ, Bool, true, false, ◌+◌, ◌-◌, ◌&&◌, ◌||◌, not, nat_eq, nat_lt, min, List, [], ◌∷◌, ◌++◌, length, take, slice_get, slice_index_or, slice_set, Option, Some, None, is_some, Ok}
+use Rattle.std.specs.Prelude.{ℕ, Bool, true, false, ◌+◌, ◌-◌, ◌&&◌, ◌||◌, not, nat_eq, nat_lt, min}
+use Rattle.std.specs.Prelude.{List, [], ◌∷◌, ◌++◌, length, take, slice_get, slice_index_or}
+use Rattle.std.specs.Prelude.{slice_set, Option, Some, None, is_some, Ok}
 use Rattle.fx_c_ast.specs.declared.operator.IntType.TheVariants.{Char, Long, Ulong}
-use Rattle.fx_c_ast.specs.ParsedTrees.{TypeTree, ExprTree, NumberTree, TextTree, VarTree, UnTree, BinTree, CastTree, SizeTree, IndexTree, MemberTree, ArrowTree, CallTree, GateTree, GetcTree, PutcTree, DevLoadTree, DevStoreTree, SpawnTree, SwitchTree, MeTree, ExprTrees, NoExprs, MoreExprs, StmtTree, EmptyTree, BlockTree, LocalTree, EvalTree, AssignTree, IfTree, WhileTree, ForTree, BreakTree, ContinueTree, ReturnTree, StmtTrees, NoStmts, MoreStmts, MaybeStmt, Absent, Present}
-use Rattle.fx_c_ast.specs.CheckedTrees.{TyTree, VoidTy, IntTy, ArrayTy, TExprTree, ENumber, ELiteral, EGlobal, ELocal, ESize, EGetc, EDevLoad, EMe, ECall, EGate, ESpawn, TExprTrees, NoTExprs, MoreTExprs, TStmtTree, SEmpty, SBlock, SLocal, SEval, SAssign, SIf, SWhile, SFor, SBreak, SContinue, SReturn, TStmtTrees, NoTStmts, MoreTStmts, MaybeTStmt, NoTStmt, OneTStmt}
+use Rattle.fx_c_ast.specs.ParsedTrees.{TypeTree, ExprTree, NumberTree, TextTree, VarTree, UnTree}
+use Rattle.fx_c_ast.specs.ParsedTrees.{BinTree, CastTree, SizeTree, IndexTree, MemberTree}
+use Rattle.fx_c_ast.specs.ParsedTrees.{ArrowTree, CallTree, GateTree, GetcTree, PutcTree}
+use Rattle.fx_c_ast.specs.ParsedTrees.{DevLoadTree, DevStoreTree, SpawnTree, SwitchTree, MeTree}
+use Rattle.fx_c_ast.specs.ParsedTrees.{ExprTrees, NoExprs, MoreExprs, StmtTree, EmptyTree}
+use Rattle.fx_c_ast.specs.ParsedTrees.{BlockTree, LocalTree, EvalTree, AssignTree, IfTree}
+use Rattle.fx_c_ast.specs.ParsedTrees.{WhileTree, ForTree, BreakTree, ContinueTree, ReturnTree}
+use Rattle.fx_c_ast.specs.ParsedTrees.{StmtTrees, NoStmts, MoreStmts, MaybeStmt, Absent, Present}
+use Rattle.fx_c_ast.specs.CheckedTrees.{TyTree, VoidTy, IntTy, ArrayTy, TExprTree, ENumber}
+use Rattle.fx_c_ast.specs.CheckedTrees.{ELiteral, EGlobal, ELocal, ESize, EGetc, EDevLoad, EMe}
+use Rattle.fx_c_ast.specs.CheckedTrees.{ECall, EGate, ESpawn, TExprTrees, NoTExprs, MoreTExprs}
+use Rattle.fx_c_ast.specs.CheckedTrees.{TStmtTree, SEmpty, SBlock, SLocal, SEval, SAssign, SIf}
+use Rattle.fx_c_ast.specs.CheckedTrees.{SWhile, SFor, SBreak, SContinue, SReturn, TStmtTrees}
+use Rattle.fx_c_ast.specs.CheckedTrees.{NoTStmts, MoreTStmts, MaybeTStmt, NoTStmt, OneTStmt}
 use Rattle.fx_c_types_heads.specs.Names.{found}
 use Rattle.fx_c_types_rules.specs.declared.fault.TypeKind.TheVariants.{Twice, UnknownType, TooLarge, UnknownName, NotInteger, Arguments, ReturnType, CrossCall, NotEntry, BreakOutside}
 use Rattle.fx_c_types_rules.specs.Checks.{Checked, ◌>>=◌, refuse, demand}

@@ -136,7 +136,10 @@ struct GlobalDecl<'a> {
 
 // A global's head.
 fn add_global(alloc: Global, heads: &mut Heads, decl: &GlobalDecl<'_>) -> Result<(), Fault>
-    ensures { Gives (λ _. heads_tree heads.new) result (global_head (heads_tree heads.old) decl.now.library decl.now.grant.now decl.now.readers.now (type_tree decl.now.ty.now) decl.now.name.now decl.now.init.now) }
+    ensures { Gives (λ _. heads_tree heads.new) result
+        (global_head (heads_tree heads.old) decl.now.library decl.now.grant.now
+        decl.now.readers.now (type_tree decl.now.ty.now) decl.now.name.now
+        decl.now.init.now) }
 {
     if heads.is_declared(decl.name.as_slice()) {
         return Err(Fault::Rule(TypeKind::Twice));
@@ -199,7 +202,10 @@ struct FunctionDecl<'a> {
 
 // A function's head.
 fn add_function(alloc: Global, heads: &mut Heads, decl: &FunctionDecl<'_>) -> Result<(), Fault>
-    ensures { Gives (λ _. heads_tree heads.new) result (function_head (heads_tree heads.old) decl.now.library decl.now.entry (type_tree decl.now.answer.now) decl.now.name.now (param_trees decl.now.params.now)) }
+    ensures { Gives (λ _. heads_tree heads.new) result
+        (function_head (heads_tree heads.old) decl.now.library decl.now.entry
+        (type_tree decl.now.answer.now) decl.now.name.now
+        (param_trees decl.now.params.now)) }
 {
     if heads.is_declared(decl.name.as_slice()) {
         return Err(Fault::Rule(TypeKind::Twice));

@@ -25,7 +25,9 @@ fn struct_layout(layouts: &[Layout], n: u32) -> Layout
 pub fn layout_within(layouts: &[Layout], t: &Ty) -> Option<Layout>
     requires known { AreKnown layouts.now }
     requires elements { IsTrue (has_elements (ty_tree t.now)) }
-    ensures { MatchOption result (67108864 < (type_layout (known layouts.now) (ty_tree t.now)).size) (λ l. (l ≡ type_layout (known layouts.now) (ty_tree t.now)) × (l.size ≤ 67108864) × (1 ≤ l.align) × (l.align ≤ 8)) }
+    ensures { MatchOption result (67108864 < (type_layout (known layouts.now) (ty_tree t.now)).size)
+        (λ l. (l ≡ type_layout (known layouts.now) (ty_tree t.now)) × (l.size ≤ 67108864)
+        × (1 ≤ l.align) × (l.align ≤ 8)) }
 {
     match t {
         Ty::Void => Some(Layout { size: 0, align: 1 }),
@@ -53,7 +55,10 @@ pub fn layout_within(layouts: &[Layout], t: &Ty) -> Option<Layout>
 pub fn struct_within(layouts: &[Layout], members: &[TMember]) -> Option<Layout>
     requires known { AreKnown layouts.now }
     requires elements { IsTrue (all_have_elements (member_types members.now)) }
-    ensures { MatchOption result (67108864 < (members_layout (known layouts.now) (member_types members.now)).size) (λ l. (l ≡ members_layout (known layouts.now) (member_types members.now)) × (l.size ≤ 67108864) × (1 ≤ l.align) × (l.align ≤ 8)) }
+    ensures { MatchOption result
+        (67108864 < (members_layout (known layouts.now) (member_types members.now)).size)
+        (λ l. (l ≡ members_layout (known layouts.now) (member_types members.now))
+        × (l.size ≤ 67108864) × (1 ≤ l.align) × (l.align ≤ 8)) }
 {
     let mut end: u64 = 0;
     let mut align: u64 = 1;

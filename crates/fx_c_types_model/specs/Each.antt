@@ -1,6 +1,12 @@
 -- What holds at each node of the expressions of checked trees.
 use Rattle.std.specs.Prelude.{Option, Some, None}
-use Rattle.fx_c_ast.specs.CheckedTrees.{TExprTree, ENumber, ELiteral, EGlobal, ELocal, EUn, EBin, ECast, EConvert, ESize, EIndex, EMember, EArrow, ECall, EGate, EGetc, EPutc, EDevLoad, EDevStore, ESpawn, ESwitch, EMe, TExprTrees, NoTExprs, MoreTExprs, TStmtTree, SEmpty, SBlock, SLocal, SEval, SAssign, SIf, SWhile, SFor, SBreak, SContinue, SReturn, TStmtTrees, NoTStmts, MoreTStmts, MaybeTStmt, NoTStmt, OneTStmt}
+use Rattle.fx_c_ast.specs.CheckedTrees.{TExprTree, ENumber, ELiteral, EGlobal, ELocal, EUn, EBin}
+use Rattle.fx_c_ast.specs.CheckedTrees.{ECast, EConvert, ESize, EIndex, EMember, EArrow, ECall}
+use Rattle.fx_c_ast.specs.CheckedTrees.{EGate, EGetc, EPutc, EDevLoad, EDevStore, ESpawn, ESwitch}
+use Rattle.fx_c_ast.specs.CheckedTrees.{EMe, TExprTrees, NoTExprs, MoreTExprs, TStmtTree, SEmpty}
+use Rattle.fx_c_ast.specs.CheckedTrees.{SBlock, SLocal, SEval, SAssign, SIf, SWhile, SFor, SBreak}
+use Rattle.fx_c_ast.specs.CheckedTrees.{SContinue, SReturn, TStmtTrees, NoTStmts, MoreTStmts}
+use Rattle.fx_c_ast.specs.CheckedTrees.{MaybeTStmt, NoTStmt, OneTStmt}
 
 -- an expression and each expression in it
 abbrev mutual

@@ -1,6 +1,8 @@
 -- Where `break` and `continue` stand.
 use Rattle.std.specs.Prelude.{Bool, true, ◌&&◌}
-use Rattle.fx_c_ast.specs.CheckedTrees.{TStmtTree, SEmpty, SBlock, SLocal, SEval, SAssign, SIf, SWhile, SFor, SBreak, SContinue, SReturn, TStmtTrees, NoTStmts, MoreTStmts, MaybeTStmt, NoTStmt, OneTStmt}
+use Rattle.fx_c_ast.specs.CheckedTrees.{TStmtTree, SEmpty, SBlock, SLocal, SEval, SAssign, SIf}
+use Rattle.fx_c_ast.specs.CheckedTrees.{SWhile, SFor, SBreak, SContinue, SReturn, TStmtTrees}
+use Rattle.fx_c_ast.specs.CheckedTrees.{NoTStmts, MoreTStmts, MaybeTStmt, NoTStmt, OneTStmt}
 
 -- each `break` and `continue` stands in a loop, where the statement itself does or doesn't
 abbrev mutual

@@ -1,7 +1,14 @@
 -- Checked trees whose numbers are there and whose types are right.
 use Rattle.std.specs.Prelude.{◌≡◌, true, length, Option, Some, None, slice_get}
 use Rattle.fx_c_ast.specs.declared.operator.IntType.TheVariants.{Long, Ulong}
-use Rattle.fx_c_ast.specs.CheckedTrees.{TyTree, VoidTy, IntTy, PtrTy, TExprTree, ENumber, ELiteral, EGlobal, ELocal, EUn, EBin, ECast, EConvert, ESize, EIndex, EMember, EArrow, ECall, EGate, EGetc, EPutc, EDevLoad, EDevStore, ESpawn, ESwitch, EMe, TExprTrees, NoTExprs, MoreTExprs, TStmtTree, SEmpty, SBlock, SLocal, SEval, SAssign, SIf, SWhile, SFor, SBreak, SContinue, SReturn, TStmtTrees, NoTStmts, MoreTStmts, MaybeTStmt, NoTStmt, OneTStmt}
+use Rattle.fx_c_ast.specs.CheckedTrees.{TyTree, VoidTy, IntTy, PtrTy, TExprTree, ENumber, ELiteral}
+use Rattle.fx_c_ast.specs.CheckedTrees.{EGlobal, ELocal, EUn, EBin, ECast, EConvert, ESize, EIndex}
+use Rattle.fx_c_ast.specs.CheckedTrees.{EMember, EArrow, ECall, EGate, EGetc, EPutc, EDevLoad}
+use Rattle.fx_c_ast.specs.CheckedTrees.{EDevStore, ESpawn, ESwitch, EMe, TExprTrees, NoTExprs}
+use Rattle.fx_c_ast.specs.CheckedTrees.{MoreTExprs, TStmtTree, SEmpty, SBlock, SLocal, SEval}
+use Rattle.fx_c_ast.specs.CheckedTrees.{SAssign, SIf, SWhile, SFor, SBreak, SContinue, SReturn}
+use Rattle.fx_c_ast.specs.CheckedTrees.{TStmtTrees, NoTStmts, MoreTStmts, MaybeTStmt, NoTStmt}
+use Rattle.fx_c_ast.specs.CheckedTrees.{OneTStmt}
 use Rattle.fx_c_ast.specs.Layout.{known_layouts, IsSized}
 use Rattle.fx_c_types_rules.specs.Types.{is_complete, pointee}
 use Rattle.fx_c_types_rules.specs.Values.{type_of, is_object}

@@ -2,7 +2,10 @@
 use Rattle.std.specs.Prelude.{◌≡◌, ◌≢◌, ◌⊎◌, ℕ, ◌<◌, ◌^◌, true, Option, Some, None}
 use Rattle.fx_c_ast.specs.declared.operator.IntType.{IntType}
 use Rattle.fx_c_ast.specs.declared.operator.IntType.TheVariants.{Int, Uint, Long, Ulong}
-use Rattle.fx_c_ast.specs.CheckedTrees.{TyTree, VoidTy, IntTy, PtrTy, ArrayTy, TExprTree, ENumber, EConvert, TStmtTree, SEmpty, SBlock, SLocal, SEval, SAssign, SIf, SWhile, SFor, SBreak, SContinue, SReturn, TStmtTrees, NoTStmts, MoreTStmts, MaybeTStmt, NoTStmt, OneTStmt}
+use Rattle.fx_c_ast.specs.CheckedTrees.{TyTree, VoidTy, IntTy, PtrTy, ArrayTy, TExprTree, ENumber}
+use Rattle.fx_c_ast.specs.CheckedTrees.{EConvert, TStmtTree, SEmpty, SBlock, SLocal, SEval, SAssign}
+use Rattle.fx_c_ast.specs.CheckedTrees.{SIf, SWhile, SFor, SBreak, SContinue, SReturn, TStmtTrees}
+use Rattle.fx_c_ast.specs.CheckedTrees.{NoTStmts, MoreTStmts, MaybeTStmt, NoTStmt, OneTStmt}
 use Rattle.fx_c_types_rules.specs.Values.{type_of, is_zero}
 
 -- the types that a number may have which is written, and the numbers that each holds (C11 6.4.4.1, 5)

@@ -8,7 +8,12 @@ use Rattle.fx_c_ast.specs.declared.operator.Binop.TheVariants.{Add, Sub, Lt, Gt,
 use Rattle.fx_c_ast.specs.ParsedTrees.{TypeTree}
 use Rattle.fx_c_ast.specs.CheckedTrees.{TyTree, VoidTy, IntTy, StructTy, PtrTy, TExprTree, TExprTrees}
 use Rattle.fx_c_types_rules.specs.declared.fault.TypeKind.{TypeKind}
-use Rattle.fx_c_types_rules.specs.declared.fault.TypeKind.TheVariants.{Twice, UnknownType, TooLarge, UnknownName, NotInteger, NotPointer, NotLvalue, Mismatch, Arguments, ReturnType, CrossCall, NotEntry}
+use Rattle.fx_c_types_rules.specs.declared.fault.TypeKind.TheVariants.{Twice, UnknownType, TooLarge}
+use Rattle.fx_c_types_rules.specs.declared.fault.TypeKind.TheVariants.{UnknownName, NotInteger}
+use Rattle.fx_c_types_rules.specs.declared.fault.TypeKind.TheVariants.{NotPointer, NotLvalue}
+use Rattle.fx_c_types_rules.specs.declared.fault.TypeKind.TheVariants.{Mismatch, Arguments}
+use Rattle.fx_c_types_rules.specs.declared.fault.TypeKind.TheVariants.{ReturnType, CrossCall}
+use Rattle.fx_c_types_rules.specs.declared.fault.TypeKind.TheVariants.{NotEntry}
 use Rattle.fx_c_types_rules.specs.Checks.{Checked}
 use Rattle.fx_c_types_rules.specs.Types.{category, same_type, is_void, is_complete}
 use Rattle.fx_c_types_rules.specs.Values.{type_of, value_of, is_zero, is_object, is_scalar, is_whole, pointers_agree, agrees, condition, assigned}

@@ -4,7 +4,10 @@ use Rattle.fx_c_ast.specs.declared.operator.IntType.{IntType}
 use Rattle.fx_c_ast.specs.declared.operator.IntType.TheVariants.{Int, Long}
 use Rattle.fx_c_ast.specs.declared.operator.Unop.{Unop}
 use Rattle.fx_c_ast.specs.declared.operator.Unop.TheVariants.{Neg, Not, Lnot, Deref, Addr}
-use Rattle.fx_c_ast.specs.CheckedTrees.{TyTree, VoidTy, IntTy, StructTy, PtrTy, ArrayTy, TExprTree, ENumber, ELiteral, EGlobal, ELocal, EUn, EBin, ECast, EConvert, ESize, EIndex, EMember, EArrow, ECall, EGate, EGetc, EPutc, EDevLoad, EDevStore, ESpawn, ESwitch, EMe}
+use Rattle.fx_c_ast.specs.CheckedTrees.{TyTree, VoidTy, IntTy, StructTy, PtrTy, ArrayTy, TExprTree}
+use Rattle.fx_c_ast.specs.CheckedTrees.{ENumber, ELiteral, EGlobal, ELocal, EUn, EBin, ECast}
+use Rattle.fx_c_ast.specs.CheckedTrees.{EConvert, ESize, EIndex, EMember, EArrow, ECall, EGate}
+use Rattle.fx_c_ast.specs.CheckedTrees.{EGetc, EPutc, EDevLoad, EDevStore, ESpawn, ESwitch, EMe}
 use Rattle.fx_c_types_rules.specs.declared.category.Category.{Category}
 use Rattle.fx_c_types_rules.specs.declared.category.Category.TheVariants.{Nothing, Integer, Structure, Pointer, Array}
 use Rattle.fx_c_types_rules.specs.declared.fault.TypeKind.TheVariants.{NotInteger, NotLvalue, Mismatch}

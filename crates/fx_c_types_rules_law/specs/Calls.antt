@@ -21,12 +21,17 @@ pub data Designates : List ℕ → List (List (List ℕ × ℕ)) → ℕ → Typ
 
 -- a function that no local hides, with its number and its head
 pub data IsFunction : HeadsTree → List (List (List ℕ × ℕ)) → List ℕ → ℕ → FunctionHead → Type 0 where
-  function_named : {h : HeadsTree} {blocks : List (List (List ℕ × ℕ))} {name : List ℕ} {n : ℕ} {f : FunctionHead} → IsUndeclared name blocks → found name h.function_names ≡ Some n → slice_get h.functions n ≡ Some f → IsFunction h blocks name n f
+  function_named : {h : HeadsTree} {blocks : List (List (List ℕ × ℕ))} {name : List ℕ} {n : ℕ}
+      {f : FunctionHead}
+      → IsUndeclared name blocks → found name h.function_names ≡ Some n
+      → slice_get h.functions n ≡ Some f → IsFunction h blocks name n f
 
 -- an argument for each parameter, a scalar, and converted to its type as if by assignment (6.5.2.2, 2 and 7)
 pub data ArePassed : List LocalTree → TExprTrees → TExprTrees → Type 0 where
   no_argument : ArePassed [] NoTExprs NoTExprs
-  one_argument : {p : LocalTree} {ps : List LocalTree} {e v : TExprTree} {es vs : TExprTrees} → IsScalar (type_of e) → IsAssignable p.ty e → Converts p.ty e v → ArePassed ps es vs → ArePassed (p ∷ ps) (MoreTExprs e es) (MoreTExprs v vs)
+  one_argument : {p : LocalTree} {ps : List LocalTree} {e v : TExprTree} {es vs : TExprTrees}
+      → IsScalar (type_of e) → IsAssignable p.ty e → Converts p.ty e v → ArePassed ps es vs
+      → ArePassed (p ∷ ps) (MoreTExprs e es) (MoreTExprs v vs)
 
 -- a call of a function of the same library (6.5.2.2, 5; that it stays in its library is this project's own)
 pub data CallGives : ℕ → ℕ → FunctionHead → TExprTrees → TExprTree → Type 0 where
@@ -42,4 +47,7 @@ pub data AreOneLong : List LocalTree → Type 0 where
 
 -- the start of a thread in a function of the same library that takes and gives a long (this project's own)
 pub data SpawnGives : ℕ → ℕ → FunctionHead → TExprTree → TExprTree → Type 0 where
-  thread_start : {library n : ℕ} {f : FunctionHead} {e v : TExprTree} → f.library ≡ library → f.answer ≡ IntTy Long → AreOneLong f.params → IsScalar (type_of e) → IsAssignable (IntTy Long) e → Converts (IntTy Long) e v → SpawnGives library n f e (ESpawn (IntTy Long) n v)
+  thread_start : {library n : ℕ} {f : FunctionHead} {e v : TExprTree} → f.library ≡ library
+      → f.answer ≡ IntTy Long → AreOneLong f.params → IsScalar (type_of e)
+      → IsAssignable (IntTy Long) e → Converts (IntTy Long) e v
+      → SpawnGives library n f e (ESpawn (IntTy Long) n v)

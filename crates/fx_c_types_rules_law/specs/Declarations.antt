@@ -21,7 +21,11 @@ use Rattle.fx_c_types_rules_law.specs.Types.{IsScalar, IsComplete, HasElements, 
 -- members of types that are complete there, in order; a member needs a size by then (6.7.2.1, 3)
 pub data AreMembers : List (List ℕ × ℕ) → ℕ → List (TypeTree × List ℕ) → List MemberTree → Type 0 where
   no_members : {tags : List (List ℕ × ℕ)} {declared : ℕ} → AreMembers tags declared [] []
-  one_member : {tags : List (List ℕ × ℕ)} {declared : ℕ} {m : TypeTree × List ℕ} {rest : List (TypeTree × List ℕ)} {ty : TyTree} {ms : List MemberTree} → Means tags m.0 ty → IsComplete declared ty → HasElements ty → AreMembers tags declared rest ms → AreMembers tags declared (m ∷ rest) (record { ty = ty; name = m.1 } ∷ ms)
+  one_member : {tags : List (List ℕ × ℕ)} {declared : ℕ} {m : TypeTree × List ℕ}
+      {rest : List (TypeTree × List ℕ)} {ty : TyTree} {ms : List MemberTree}
+      → Means tags m.0 ty → IsComplete declared ty → HasElements ty
+      → AreMembers tags declared rest ms
+      → AreMembers tags declared (m ∷ rest) (record { ty = ty; name = m.1 } ∷ ms)
 
 -- a name that no global and no function has: they share one space of names (6.2.3)
 pub data IsFree : HeadsTree → List ℕ → Type 0 where
@@ -41,7 +45,10 @@ pub data IsResult : TyTree → Type 0 where
 -- parameters, which are scalars (that none is a struct is this project's own)
 pub data AreParams : List (List ℕ × ℕ) → List ParamTree → List LocalTree → Type 0 where
   no_params : {tags : List (List ℕ × ℕ)} → AreParams tags [] []
-  one_param : {tags : List (List ℕ × ℕ)} {p : ParamTree} {rest : List ParamTree} {ty : TyTree} {ps : List LocalTree} → Means tags p.ty ty → IsScalar ty → AreParams tags rest ps → AreParams tags (p ∷ rest) (record { shared = p.shared; ty = ty } ∷ ps)
+  one_param : {tags : List (List ℕ × ℕ)} {p : ParamTree} {rest : List ParamTree} {ty : TyTree}
+      {ps : List LocalTree}
+      → Means tags p.ty ty → IsScalar ty → AreParams tags rest ps
+      → AreParams tags (p ∷ rest) (record { shared = p.shared; ty = ty } ∷ ps)
 
 pub data DeclaresHead : HeadsTree → ℕ → DeclTree → HeadsTree → Type 0 where
   -- the tag's first declaration, with members of different names, and of at most 67,108,864 bytes (6.7.2.1, 6.7.2.3, 1;

@@ -3,8 +3,14 @@
 -- `MeansStatement s loop b t u c`: in the scope s, inside a loop or not, where b is there, the statement t means the
 -- tree u; c is there behind it. A statement adds its strings, its locals, and the names that it declares in its block.
 use Rattle.std.specs.Prelude.{◌≡◌, ℕ, Bool, true, List, [], ◌∷◌, length, Option, Some, None}
-use Rattle.fx_c_ast.specs.ParsedTrees.{TypeTree, ExprTree, StmtTree, EmptyTree, BlockTree, LocalTree, EvalTree, AssignTree, IfTree, WhileTree, ForTree, BreakTree, ContinueTree, ReturnTree, StmtTrees, NoStmts, MoreStmts, MaybeStmt, Absent, Present}
-use Rattle.fx_c_ast.specs.CheckedTrees.{TyTree, VoidTy, TExprTree, ELocal, TStmtTree, SEmpty, SBlock, SLocal, SEval, SAssign, SIf, SWhile, SFor, SBreak, SContinue, SReturn, TStmtTrees, NoTStmts, MoreTStmts, MaybeTStmt, NoTStmt, OneTStmt}
+use Rattle.fx_c_ast.specs.ParsedTrees.{TypeTree, ExprTree, StmtTree, EmptyTree, BlockTree}
+use Rattle.fx_c_ast.specs.ParsedTrees.{LocalTree, EvalTree, AssignTree, IfTree, WhileTree, ForTree}
+use Rattle.fx_c_ast.specs.ParsedTrees.{BreakTree, ContinueTree, ReturnTree, StmtTrees, NoStmts}
+use Rattle.fx_c_ast.specs.ParsedTrees.{MoreStmts, MaybeStmt, Absent, Present}
+use Rattle.fx_c_ast.specs.CheckedTrees.{TyTree, VoidTy, TExprTree, ELocal, TStmtTree, SEmpty}
+use Rattle.fx_c_ast.specs.CheckedTrees.{SBlock, SLocal, SEval, SAssign, SIf, SWhile, SFor, SBreak}
+use Rattle.fx_c_ast.specs.CheckedTrees.{SContinue, SReturn, TStmtTrees, NoTStmts, MoreTStmts}
+use Rattle.fx_c_ast.specs.CheckedTrees.{MaybeTStmt, NoTStmt, OneTStmt}
 use Rattle.fx_c_types_heads.specs.Names.{found}
 use Rattle.fx_c_types_rules.specs.Values.{type_of}
 use Rattle.fx_c_types_rules.specs.Structs.{place_32}
@@ -23,9 +29,14 @@ mutual
     -- 6.8.3, 3
     empty_statement : {s : ScopeTree} {loop : Bool} {b : BodyTree} → MeansStatement s loop b EmptyTree SEmpty b
     -- names that a block declares are in reach up to its end (6.2.1, 4; 6.8.2)
-    block : {s : ScopeTree} {loop : Bool} {b c : BodyTree} {all : StmtTrees} {ts : TStmtTrees} → MeanStatements s loop (entered b []) all ts c → MeansStatement s loop b (BlockTree all) (SBlock ts) (left c)
+    block : {s : ScopeTree} {loop : Bool} {b c : BodyTree} {all : StmtTrees} {ts : TStmtTrees}
+        → MeanStatements s loop (entered b []) all ts c
+        → MeansStatement s loop b (BlockTree all) (SBlock ts) (left c)
     -- a local of a type that objects may have, whose name the block doesn't declare yet (6.7, 3 and 7)
-    declaration : {s : ScopeTree} {loop : Bool} {b : BodyTree} {shared : Bool} {t : TypeTree} {ty : TyTree} {name : List ℕ} → found name (innermost b) ≡ None → IsObjectType s.heads.tags s.heads.layouts s.declared t ty
+    declaration : {s : ScopeTree} {loop : Bool} {b : BodyTree} {shared : Bool} {t : TypeTree}
+        {ty : TyTree} {name : List ℕ}
+        → found name (innermost b) ≡ None
+        → IsObjectType s.heads.tags s.heads.layouts s.declared t ty
         → MeansStatement s loop b (LocalTree shared t name None) (SLocal (place_16 (place_32 (length b.locals))) None) (with_name (with_local b shared ty) name (place_32 (length b.locals)))
     -- the local is in reach in its initial value already (6.2.1, 7), which is assigned to it (6.7.9, 11 and 13)
     declaration_with_value : {s : ScopeTree} {loop : Bool} {b c : BodyTree} {shared : Bool} {t : TypeTree} {ty : TyTree} {name : List ℕ} {e : ExprTree} {x v w : TExprTree}
@@ -36,19 +47,36 @@ mutual
     -- 6.8.3, 2
     evaluation : {s : ScopeTree} {loop : Bool} {b c : BodyTree} {e : ExprTree} {x v : TExprTree} → HasType s b e x c → HasValue x v → MeansStatement s loop b (EvalTree e) (SEval v) c
     -- 6.5.16
-    assignment : {s : ScopeTree} {loop : Bool} {b c d : BodyTree} {to e : ExprTree} {x y v w : TExprTree} → HasType s b to x c → HasType s c e y d → HasValue y v → IsAssigned x v w → MeansStatement s loop b (AssignTree to e) (SAssign x w) d
+    assignment : {s : ScopeTree} {loop : Bool} {b c d : BodyTree} {to e : ExprTree}
+        {x y v w : TExprTree}
+        → HasType s b to x c → HasType s c e y d → HasValue y v → IsAssigned x v w
+        → MeansStatement s loop b (AssignTree to e) (SAssign x w) d
     -- 6.8.4.1
-    selection : {s : ScopeTree} {loop : Bool} {b c d f : BodyTree} {test : ExprTree} {one : StmtTree} {other : MaybeStmt} {x v w : TExprTree} {t : TStmtTree} {u : MaybeTStmt} → HasType s b test x c → HasValue x v → IsTested v w → MeansStatement s loop c one t d → MeansMaybe s loop d other u f → MeansStatement s loop b (IfTree test one other) (SIf w t u) f
+    selection : {s : ScopeTree} {loop : Bool} {b c d f : BodyTree} {test : ExprTree}
+        {one : StmtTree} {other : MaybeStmt} {x v w : TExprTree} {t : TStmtTree} {u : MaybeTStmt}
+        → HasType s b test x c → HasValue x v → IsTested v w → MeansStatement s loop c one t d
+        → MeansMaybe s loop d other u f
+        → MeansStatement s loop b (IfTree test one other) (SIf w t u) f
     -- 6.8.5.1
-    while_loop : {s : ScopeTree} {loop : Bool} {b c d : BodyTree} {test : ExprTree} {body : StmtTree} {x v w : TExprTree} {t : TStmtTree} → HasType s b test x c → HasValue x v → IsTested v w → MeansStatement s true c body t d → MeansStatement s loop b (WhileTree test body) (SWhile w t) d
+    while_loop : {s : ScopeTree} {loop : Bool} {b c d : BodyTree} {test : ExprTree}
+        {body : StmtTree} {x v w : TExprTree} {t : TStmtTree}
+        → HasType s b test x c → HasValue x v → IsTested v w → MeansStatement s true c body t d
+        → MeansStatement s loop b (WhileTree test body) (SWhile w t) d
     -- 6.8.5.3
-    for_loop : {s : ScopeTree} {loop : Bool} {b c d f g : BodyTree} {first next : MaybeStmt} {test : Option ExprTree} {body : StmtTree} {t u : MaybeTStmt} {w : Option TExprTree} {x : TStmtTree} → MeansMaybe s loop b first t c → MeansTest s c test w d → MeansMaybe s loop d next u f → MeansStatement s true f body x g → MeansStatement s loop b (ForTree first test next body) (SFor t w u x) g
+    for_loop : {s : ScopeTree} {loop : Bool} {b c d f g : BodyTree} {first next : MaybeStmt}
+        {test : Option ExprTree} {body : StmtTree} {t u : MaybeTStmt} {w : Option TExprTree}
+        {x : TStmtTree}
+        → MeansMaybe s loop b first t c → MeansTest s c test w d → MeansMaybe s loop d next u f
+        → MeansStatement s true f body x g
+        → MeansStatement s loop b (ForTree first test next body) (SFor t w u x) g
     -- only in a loop (6.8.6.2, 1; 6.8.6.3, 1)
     break_statement : {s : ScopeTree} {b : BodyTree} → MeansStatement s true b BreakTree SBreak b
     continue_statement : {s : ScopeTree} {b : BodyTree} → MeansStatement s true b ContinueTree SContinue b
     -- without a value in a function of type void alone, else with one that is converted as if by assignment (6.8.6.4)
     return_alone : {s : ScopeTree} {loop : Bool} {b : BodyTree} → s.answer ≡ VoidTy → MeansStatement s loop b (ReturnTree None) (SReturn None) b
-    return_value : {s : ScopeTree} {loop : Bool} {b c : BodyTree} {e : ExprTree} {x v w : TExprTree} → HasType s b e x c → HasValue x v → IsScalar (type_of v) → IsAssignable s.answer v → Converts s.answer v w → MeansStatement s loop b (ReturnTree (Some e)) (SReturn (Some w)) c
+    return_value : {s : ScopeTree} {loop : Bool} {b c : BodyTree} {e : ExprTree} {x v w : TExprTree}
+        → HasType s b e x c → HasValue x v → IsScalar (type_of v) → IsAssignable s.answer v
+        → Converts s.answer v w → MeansStatement s loop b (ReturnTree (Some e)) (SReturn (Some w)) c
 
   -- a part that may be left out
   pub data MeansMaybe : ScopeTree → Bool → BodyTree → MaybeStmt → MaybeTStmt → BodyTree → Type 0 where
@@ -58,4 +86,7 @@ mutual
   -- statements in order
   pub data MeanStatements : ScopeTree → Bool → BodyTree → StmtTrees → TStmtTrees → BodyTree → Type 0 where
     no_statement : {s : ScopeTree} {loop : Bool} {b : BodyTree} → MeanStatements s loop b NoStmts NoTStmts b
-    more_statements : {s : ScopeTree} {loop : Bool} {b c d : BodyTree} {t : StmtTree} {ts : StmtTrees} {u : TStmtTree} {us : TStmtTrees} → MeansStatement s loop b t u c → MeanStatements s loop c ts us d → MeanStatements s loop b (MoreStmts t ts) (MoreTStmts u us) d
+    more_statements : {s : ScopeTree} {loop : Bool} {b c d : BodyTree} {t : StmtTree}
+        {ts : StmtTrees} {u : TStmtTree} {us : TStmtTrees}
+        → MeansStatement s loop b t u c → MeanStatements s loop c ts us d
+        → MeanStatements s loop b (MoreStmts t ts) (MoreTStmts u us) d

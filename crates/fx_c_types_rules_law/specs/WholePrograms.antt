@@ -49,4 +49,6 @@ pub data IsMain : HeadsTree → ℕ → Type 0 where
 -- the declarations of all files, in their order, and the checked program that they mean. `tags_of` numbers the tags of
 -- all structs, so that a type behind a pointer may name one that is declared later (6.7.2.3, 7 and 8)
 pub data MeansProgram : List PlacedDecl → ProgramTree → Type 0 where
-  program : {ds : List PlacedDecl} {h : HeadsTree} {b : BodiesTree} {main : ℕ} → AreHeads (no_heads (tags_of [] ds)) ds h → AreBodies h no_bodies ds b → IsMain h main → MeansProgram ds (program_of h b main)
+  program : {ds : List PlacedDecl} {h : HeadsTree} {b : BodiesTree} {main : ℕ}
+      → AreHeads (no_heads (tags_of [] ds)) ds h → AreBodies h no_bodies ds b → IsMain h main
+      → MeansProgram ds (program_of h b main)

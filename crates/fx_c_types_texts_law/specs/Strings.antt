@@ -1,7 +1,15 @@
 -- How many strings stand in the expressions of a tree, each of which is an object of its own. A string that a
 -- global begins with is none.
 use Rattle.std.specs.Prelude.{ℕ, ◌+◌, List, [], ◌∷◌, Option, Some, None}
-use Rattle.fx_c_ast.specs.ParsedTrees.{ExprTree, NumberTree, TextTree, VarTree, UnTree, BinTree, CastTree, SizeTree, IndexTree, MemberTree, ArrowTree, CallTree, GateTree, GetcTree, PutcTree, DevLoadTree, DevStoreTree, SpawnTree, SwitchTree, MeTree, ExprTrees, NoExprs, MoreExprs, StmtTree, EmptyTree, BlockTree, LocalTree, EvalTree, AssignTree, IfTree, WhileTree, ForTree, BreakTree, ContinueTree, ReturnTree, StmtTrees, NoStmts, MoreStmts, MaybeStmt, Absent, Present, DeclTree, StructTree, GlobalTree, FunctionTree}
+use Rattle.fx_c_ast.specs.ParsedTrees.{ExprTree, NumberTree, TextTree, VarTree, UnTree, BinTree}
+use Rattle.fx_c_ast.specs.ParsedTrees.{CastTree, SizeTree, IndexTree, MemberTree, ArrowTree}
+use Rattle.fx_c_ast.specs.ParsedTrees.{CallTree, GateTree, GetcTree, PutcTree, DevLoadTree}
+use Rattle.fx_c_ast.specs.ParsedTrees.{DevStoreTree, SpawnTree, SwitchTree, MeTree, ExprTrees}
+use Rattle.fx_c_ast.specs.ParsedTrees.{NoExprs, MoreExprs, StmtTree, EmptyTree, BlockTree}
+use Rattle.fx_c_ast.specs.ParsedTrees.{LocalTree, EvalTree, AssignTree, IfTree, WhileTree, ForTree}
+use Rattle.fx_c_ast.specs.ParsedTrees.{BreakTree, ContinueTree, ReturnTree, StmtTrees, NoStmts}
+use Rattle.fx_c_ast.specs.ParsedTrees.{MoreStmts, MaybeStmt, Absent, Present, DeclTree, StructTree}
+use Rattle.fx_c_ast.specs.ParsedTrees.{GlobalTree, FunctionTree}
 use Rattle.fx_c_types.specs.Programs.{PlacedDecl}
 
 abbrev mutual

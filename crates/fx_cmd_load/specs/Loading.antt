@@ -29,7 +29,9 @@ IsConfigured name held k = (text : List ℕ) × HasContent held name text × (le
 -- the configuration was not read, or the text under the name is refused
 abbrev pub ConfigurationCause : List ℕ → Option Held → ℕ → ℕ → LoadError → Type 0
 ConfigurationCause name held before now (File n error) = (n ≡ name) × ReadingFault config_limit name held before now error
-ConfigurationCause name held before now (ConfigRefused error) = (text : List ℕ) × HasContent held name text × (length text ≤ config_limit) × (configuration_of text ≡ Err error) × (error ≢ config.OutOfMemory)
+ConfigurationCause name held before now (ConfigRefused error) =
+    (text : List ℕ) × HasContent held name text × (length text ≤ config_limit)
+    × (configuration_of text ≡ Err error) × (error ≢ config.OutOfMemory)
 ConfigurationCause name held before now (Parse file error) = ⊥
 ConfigurationCause name held before now OutOfMemory = Unit {0}
 

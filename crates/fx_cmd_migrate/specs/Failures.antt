@@ -4,7 +4,8 @@ use Rattle.fx_base.specs.declared.files.FileError.TheVariants as files
 use Rattle.fx_cmd_base.specs.RefusalWords.{file_fault}
 use Rattle.fx_cmd_run.specs.Lines.{no_image_words, unbegun_status}
 use Rattle.fx_cmd_migrate.specs.declared.failure.Unmigrated.{Unmigrated}
-use Rattle.fx_cmd_migrate.specs.declared.failure.Unmigrated.TheVariants.{NoImage, WriteFailed, OutOfMemory}
+use Rattle.fx_cmd_migrate.specs.declared.failure.Unmigrated.TheVariants.{NoImage, WriteFailed}
+use Rattle.fx_cmd_migrate.specs.declared.failure.Unmigrated.TheVariants.{OutOfMemory}
 
 abbrev pub unmigrated_status : Unmigrated → ℕ
 unmigrated_status (NoImage why) = unbegun_status why

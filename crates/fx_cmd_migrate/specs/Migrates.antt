@@ -10,7 +10,8 @@ use Rattle.fx_cmd_base.specs.Ends.{ErrorStream, EndedOrWanted}
 use Rattle.fx_cmd_run.specs.Causes.{HasImage, ImageCause, UnbegunLeaves}
 use Rattle.fx_cmd_migrate.specs.Failures.{unmigrated_status, unmigrated_words}
 use Rattle.fx_cmd_migrate.specs.declared.failure.Unmigrated.{Unmigrated}
-use Rattle.fx_cmd_migrate.specs.declared.failure.Unmigrated.TheVariants.{NoImage, WriteFailed, OutOfMemory}
+use Rattle.fx_cmd_migrate.specs.declared.failure.Unmigrated.TheVariants.{NoImage, WriteFailed}
+use Rattle.fx_cmd_migrate.specs.declared.failure.Unmigrated.TheVariants.{OutOfMemory}
 
 -- the image in the version that is written today, with nothing else changed
 abbrev pub current : Image → Image

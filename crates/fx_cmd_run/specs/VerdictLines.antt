@@ -9,7 +9,11 @@ use Rattle.fx_image.specs.declared.forms.Image.{Image}
 use Rattle.fx_image.specs.declared.forms.Obj.{Obj}
 use Rattle.fx_cmd_base.specs.Hex.{hex}
 use Rattle.fx_cmd_run.specs.declared.verdict.Verdict.{Verdict}
-use Rattle.fx_cmd_run.specs.declared.verdict.Verdict.TheVariants.{Exited, Denied, StackFull, Divide, BadThread, ThreadsFull, Invalid, Protection, Aborted, Page, Spent, DeviceFault, ReadFault, WriteFault, OutOfMemory}
+use Rattle.fx_cmd_run.specs.declared.verdict.Verdict.TheVariants.{Exited, Denied, StackFull, Divide}
+use Rattle.fx_cmd_run.specs.declared.verdict.Verdict.TheVariants.{BadThread, ThreadsFull, Invalid}
+use Rattle.fx_cmd_run.specs.declared.verdict.Verdict.TheVariants.{Protection, Aborted, Page, Spent}
+use Rattle.fx_cmd_run.specs.declared.verdict.Verdict.TheVariants.{DeviceFault, ReadFault}
+use Rattle.fx_cmd_run.specs.declared.verdict.Verdict.TheVariants.{WriteFault, OutOfMemory}
 
 -- A compartment by its name; what no compartment is has another word.
 abbrev pub comp_name : Option Comp → List ℕ → List ℕ

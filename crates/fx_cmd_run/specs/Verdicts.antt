@@ -14,7 +14,11 @@ use Rattle.fx_machine_model.specs.declared.stop.Stop.TheVariants as stops
 use Rattle.fx_machine_model.specs.declared.outcome.Outcome.{Outcome}
 use Rattle.fx_machine_model.specs.declared.outcome.Outcome.TheVariants as outcomes
 use Rattle.fx_cmd_run.specs.declared.verdict.Verdict.{Verdict}
-use Rattle.fx_cmd_run.specs.declared.verdict.Verdict.TheVariants.{Exited, Denied, StackFull, Divide, BadThread, ThreadsFull, Invalid, Protection, Aborted, Page, Spent, DeviceFault, ReadFault, WriteFault, OutOfMemory}
+use Rattle.fx_cmd_run.specs.declared.verdict.Verdict.TheVariants.{Exited, Denied, StackFull, Divide}
+use Rattle.fx_cmd_run.specs.declared.verdict.Verdict.TheVariants.{BadThread, ThreadsFull, Invalid}
+use Rattle.fx_cmd_run.specs.declared.verdict.Verdict.TheVariants.{Protection, Aborted, Page, Spent}
+use Rattle.fx_cmd_run.specs.declared.verdict.Verdict.TheVariants.{DeviceFault, ReadFault}
+use Rattle.fx_cmd_run.specs.declared.verdict.Verdict.TheVariants.{WriteFault, OutOfMemory}
 
 -- Whether a refused access was to an object.
 abbrev pub is_object : Found → Bool

@@ -1,5 +1,6 @@
 -- The lines of an image's parts.
-use Rattle.std.specs.Prelude.{ℕ, ◌+◌, ◌*◌, List, [], ◌∷◌, ◌++◌, codes, length, slice_get, Option, Some, None, if◌then◌else◌}
+use Rattle.std.specs.Prelude.{ℕ, ◌+◌, ◌*◌, List, [], ◌∷◌, ◌++◌, codes, length, slice_get, Option}
+use Rattle.std.specs.Prelude.{Some, None, if◌then◌else◌}
 use Rattle.std.specs.Fmt.{decimal}
 use Rattle.fx_image.specs.declared.forms.Comp.{Comp}
 use Rattle.fx_image.specs.declared.forms.Section.{Section}
@@ -11,7 +12,8 @@ use Rattle.fx_image.specs.declared.forms.Image.{Image}
 use Rattle.fx_image.specs.Layout.{code_start}
 use Rattle.fx_image.specs.Keys.{is_keyed}
 use Rattle.fx_cmd_base.specs.Hex.{hex}
-use Rattle.fx_cmd_show.specs.Words.{mechanism_word, hex_8, name_of, member_words, read_words, written_words}
+use Rattle.fx_cmd_show.specs.Words.{mechanism_word, hex_8, name_of, member_words, read_words}
+use Rattle.fx_cmd_show.specs.Words.{written_words}
 
 -- ---- the header
 

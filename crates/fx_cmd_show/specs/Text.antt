@@ -2,7 +2,8 @@
 use Rattle.std.specs.Prelude.{ℕ, List, ◌++◌}
 use Rattle.fx_image.specs.declared.forms.Image.{Image}
 use Rattle.fx_cmd_show.specs.Lists.{each_line, lines_of}
-use Rattle.fx_cmd_show.specs.Lines.{header, compartment_line, section_line, object_line, entry_line, stub_line, device_line, start_line}
+use Rattle.fx_cmd_show.specs.Lines.{header, compartment_line, section_line, object_line, entry_line}
+use Rattle.fx_cmd_show.specs.Lines.{stub_line, device_line, start_line}
 
 -- the compartments with their entries
 unfoldable pub code_lines : Image → List ℕ

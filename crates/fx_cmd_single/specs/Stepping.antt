@@ -25,7 +25,9 @@ EndsBy old new taken gained left lost input read out put (Device i) = Faults old
 EndsBy old new taken gained left lost input read out put ReadFault =
     AsksInput old.state × Rose input read × (new ≡ old) × Told Same taken gained × Told Same left lost
 EndsBy old new taken gained left lost input read out put WriteFault =
-    (answer : ℕ) × (said : Walk) × (went : GoesOn old answer said new) × (inputs went.made ≡ []) × (byte : ℕ) × (outputs went.made ≡ byte ∷ []) × Rose out put × Told Same taken gained × Told Same left lost
+    (answer : ℕ) × (said : Walk) × (went : GoesOn old answer said new) × (inputs went.made ≡ [])
+    × (byte : ℕ) × (outputs went.made ≡ byte ∷ []) × Rose out put × Told Same taken gained
+    × Told Same left lost
 EndsBy old new taken gained left lost input read out put OutOfMemory =
     (new ≡ old) × Told Same taken gained × (Told Same left lost ⊎ Told LostOne left lost)
 

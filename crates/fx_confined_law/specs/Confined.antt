@@ -41,7 +41,10 @@ replaced image c bytes = replaced_in image (slice_get image.compartments c) byte
 
 -- They fit, and WRPKRU's bytes stand in the whole code where a stub lists them alone.
 abbrev pub Admitted : Image → ℕ → List ℕ → Type 0
-Admitted image c bytes = IfSome (slice_get image.compartments c) (λ comp. (length bytes ≤ comp.len) × All (λ b. b < 256) bytes × (first_unlisted image.stubs (replaced_code image.code comp bytes) ≡ None))
+Admitted image c bytes =
+    IfSome (slice_get image.compartments c)
+    (λ comp. (length bytes ≤ comp.len) × All (λ b. b < 256) bytes
+    × (first_unlisted image.stubs (replaced_code image.code comp bytes) ≡ None))
 
 -- ---- what holds after each turn
 
@@ -49,7 +52,9 @@ Admitted image c bytes = IfSome (slice_get image.compartments c) (λ comp. (leng
 pub record Obeys (image : Image) (vcpu : ℕ) (r : Regs) (w : World) : Type 0 where
   pub somebody : IsSomebody image (domain image vcpu r)
   pub checked : domain image vcpu r ≡ Checking → access_of image vcpu r w ≡ None
-  pub granted : (c : ℕ) (t : Touch) (o : List DeviceOp) (after : Regs × World) → domain image vcpu r ≡ Acts c → move image vcpu r w ≡ Goes o after → access_of image vcpu r w ≡ Some t → IsGranted image c t
+  pub granted : (c : ℕ) (t : Touch) (o : List DeviceOp) (after : Regs × World)
+      → domain image vcpu r ≡ Acts c → move image vcpu r w ≡ Goes o after
+      → access_of image vcpu r w ≡ Some t → IsGranted image c t
 
 -- Parts 1 and 2 of Confined, under keys: at each moment of each run of the image with admitted bytes in
 -- place of c's.

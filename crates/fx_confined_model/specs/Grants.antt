@@ -33,10 +33,16 @@ IsSectionPage image test page = (i : ℕ) × (s : Section) × (slice_get image.s
 
 -- A page of a low half: of c's own stacks where compartments have stacks of their own, else of any.
 abbrev pub IsLowPage : Image → ℕ → ℕ → Type 0
-IsLowPage image c page = (first_stack ≤ page * 4096) × (stack_of image page < stack_count image) × (place_of image page < stack_bytes image) × (has_halves image.mechanism ≡ true → stack_compartment image (stack_of image page) ≡ c)
+IsLowPage image c page =
+    (first_stack ≤ page * 4096) × (stack_of image page < stack_count image)
+    × (place_of image page < stack_bytes image)
+    × (has_halves image.mechanism ≡ true → stack_compartment image (stack_of image page) ≡ c)
 
 abbrev pub IsHighPage : Image → ℕ → Type 0
-IsHighPage image page = (first_stack ≤ page * 4096) × (stack_of image page < stack_count image) × (stack_bytes image ≤ place_of image page) × (place_of image page < 2 * stack_bytes image) × (has_halves image.mechanism ≡ true)
+IsHighPage image page =
+    (first_stack ≤ page * 4096) × (stack_of image page < stack_count image)
+    × (stack_bytes image ≤ place_of image page) × (place_of image page < 2 * stack_bytes image)
+    × (has_halves image.mechanism ≡ true)
 
 abbrev pub IsDevicePage : Image → ℕ → ℕ → Type 0
 IsDevicePage image c page = (0xf100 ≤ page) × (page < 0xf110) × (owner_of image (page - 0xf100) ≡ c)

@@ -11,7 +11,11 @@ use Rattle.fx_x64_forms.specs.declared.inst.ShiftOp.{ShiftOp}
 use Rattle.fx_x64_forms.specs.declared.inst.UnaryOp.{UnaryOp}
 use Rattle.fx_x64_forms.specs.declared.inst.UnaryOp.TheVariants.{Not, Neg, Div, Idiv}
 use Rattle.fx_x64_forms.specs.declared.inst.Inst.{Inst}
-use Rattle.fx_x64_forms.specs.declared.inst.Inst.TheVariants.{Mov, Load, LoadZero, LoadSign, Zero, Sign, Store, MovImm, MovImm64, Lea, Alu, AluImm, Imul, Shift, Unary, Cqo, Setcc, Jcc, Jmp, Call, Ret, Push, Pop, Hlt, Nop, Wrpkru, Rdpkru}
+use Rattle.fx_x64_forms.specs.declared.inst.Inst.TheVariants.{Mov, Load, LoadZero, LoadSign, Zero}
+use Rattle.fx_x64_forms.specs.declared.inst.Inst.TheVariants.{Sign, Store, MovImm, MovImm64, Lea}
+use Rattle.fx_x64_forms.specs.declared.inst.Inst.TheVariants.{Alu, AluImm, Imul, Shift, Unary, Cqo}
+use Rattle.fx_x64_forms.specs.declared.inst.Inst.TheVariants.{Setcc, Jcc, Jmp, Call, Ret, Push, Pop}
+use Rattle.fx_x64_forms.specs.declared.inst.Inst.TheVariants.{Hlt, Nop, Wrpkru, Rdpkru}
 use Rattle.fx_word_ops.specs.Words.{half, size, cut, sign_extension_of}
 use Rattle.fx_word_ops.specs.Sums.{sum_of, difference_of, combination_of}
 use Rattle.fx_word_ops.specs.Shifts.{shift_of}

@@ -1,5 +1,7 @@
 -- The bus: what its boxes hold, what an operation does to it, and what ties its boxes to its transcript.
-use Rattle.std.specs.Prelude.{◌≡◌, ℕ, ◌^◌, ◌-◌, ◌==◌, zero, suc, true, false, nat_eq, List, [], ◌∷◌, ◌++◌, filter, map, option_map, slice_index_or, slice_set, Option, Some, None, Result, Ok, Err, if◌then◌else◌}
+use Rattle.std.specs.Prelude.{◌≡◌, ℕ, ◌^◌, ◌-◌, ◌==◌, zero, suc, true, false, nat_eq, List, [], ◌∷◌}
+use Rattle.std.specs.Prelude.{◌++◌, filter, map, option_map, slice_index_or, slice_set, Option}
+use Rattle.std.specs.Prelude.{Some, None, Result, Ok, Err, if◌then◌else◌}
 use Rattle.fx_base.specs.declared.device_op.DeviceOp.{DeviceOp}
 use Rattle.fx_device.specs.Rules.{Held, Meaning, left_in, Request, load, store, Answered, Failed}
 use Rattle.fx_device.specs.declared.bus_error.BusError.{BusError}
@@ -73,7 +75,10 @@ Carries device request (Err OutOfMemory) old new = new ≡ old
 -- from one state of a device, these operations of its transcript lead to another; calls that failed may stand between them
 pub data Leads (b : Meaning) : List DeviceOp → Meaning → Type 0 where
   none : Leads b [] b
-  answered : (device : ℕ) (request : Request) (value : ℕ) (now : Held) (ops : List DeviceOp) (c : Meaning) → Leads b ops c → Answered c request value now → Leads b (ops ++ operation device request value ∷ []) (left_in c now)
+  answered : (device : ℕ) (request : Request) (value : ℕ) (now : Held) (ops : List DeviceOp)
+      (c : Meaning)
+      → Leads b ops c → Answered c request value now
+      → Leads b (ops ++ operation device request value ∷ []) (left_in c now)
   failed : (request : Request) (now : Held) (ops : List DeviceOp) (c : Meaning) → Leads b ops c → Failed c request now → Leads b ops (left_in c now)
 
 -- the operations of one device, in order

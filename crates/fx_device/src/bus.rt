@@ -55,7 +55,11 @@ impl Bus {
     pub fn load(&mut self, device: u16, reg: u16) -> Result<u64, BusError>
         requires { ⊤ }
         ensures carried { Carries device (load reg) result (bus_state (λ d. meaning d) self.old.boxes self.old.transcript.items) (bus_state (λ d. meaning d) self.new.boxes self.new.transcript.items) }
-        ensures law { (first : List (Option Meaning)) → BusLaw first (bus_state (λ d. meaning d) self.old.boxes self.old.transcript.items) → BusLaw first (bus_state (λ d. meaning d) self.new.boxes self.new.transcript.items) }
+        ensures law { (first : List (Option Meaning))
+            → BusLaw first
+            (bus_state (λ d. meaning d) self.old.boxes self.old.transcript.items)
+            → BusLaw first
+            (bus_state (λ d. meaning d) self.new.boxes self.new.transcript.items) }
     {
         self.carry_load(device, reg)
     }
@@ -81,14 +85,22 @@ impl Bus {
     /// memory for the transcript all is as it was.
     pub fn store(&mut self, device: u16, reg: u16, v: u64) -> Result<(), BusError>
         requires { ⊤ }
-        ensures carried { Carries device (store reg v) (result_map_both (λ _. v) (λ e. e) result) (bus_state (λ d. meaning d) self.old.boxes self.old.transcript.items) (bus_state (λ d. meaning d) self.new.boxes self.new.transcript.items) }
-        ensures law { (first : List (Option Meaning)) → BusLaw first (bus_state (λ d. meaning d) self.old.boxes self.old.transcript.items) → BusLaw first (bus_state (λ d. meaning d) self.new.boxes self.new.transcript.items) }
+        ensures carried { Carries device (store reg v) (result_map_both (λ _. v) (λ e. e) result)
+            (bus_state (λ d. meaning d) self.old.boxes self.old.transcript.items)
+            (bus_state (λ d. meaning d) self.new.boxes self.new.transcript.items) }
+        ensures law { (first : List (Option Meaning))
+            → BusLaw first
+            (bus_state (λ d. meaning d) self.old.boxes self.old.transcript.items)
+            → BusLaw first
+            (bus_state (λ d. meaning d) self.new.boxes self.new.transcript.items) }
     {
         self.carry_store(device, reg, v)
     }
 
     fn carry_store(&mut self, device: u16, reg: u16, v: u64) -> Result<(), BusError>
-        ensures { Carries device (store reg v) (result_map_both (λ _. v) (λ e. e) result) (bus_state (λ d. meaning d) self.old.boxes self.old.transcript.items) (bus_state (λ d. meaning d) self.new.boxes self.new.transcript.items) }
+        ensures { Carries device (store reg v) (result_map_both (λ _. v) (λ e. e) result)
+            (bus_state (λ d. meaning d) self.old.boxes self.old.transcript.items)
+            (bus_state (λ d. meaning d) self.new.boxes self.new.transcript.items) }
     {
         self.transcript.reserve(1)?;
         store_at(&mut self.boxes, device, reg, v)?;
@@ -107,7 +119,11 @@ impl Bus {
         requires { op.device ≡ 0 }
         ensures transcript { self.new.transcript.items ≡ (if is_ok result then self.old.transcript.items ++ op ∷ [] else self.old.transcript.items) }
         ensures boxes { self.new.boxes ≡ self.old.boxes }
-        ensures law { (first : List (Option Meaning)) → BusLaw first (bus_state (λ d. meaning d) self.old.boxes self.old.transcript.items) → BusLaw first (bus_state (λ d. meaning d) self.new.boxes self.new.transcript.items) }
+        ensures law { (first : List (Option Meaning))
+            → BusLaw first
+            (bus_state (λ d. meaning d) self.old.boxes self.old.transcript.items)
+            → BusLaw first
+            (bus_state (λ d. meaning d) self.new.boxes self.new.transcript.items) }
     {
         self.write_down(op)
     }
@@ -126,7 +142,11 @@ impl Bus {
         ensures there { IsTrue result ↔ IsSome (box_of device (map (option_map (λ d. meaning d)) self.old.boxes)) }
         ensures boxes { map (option_map (λ d. meaning d)) self.new.boxes ≡ with_box device None (map (option_map (λ d. meaning d)) self.old.boxes) }
         ensures transcript { self.new.transcript ≡ self.old.transcript }
-        ensures law { (first : List (Option Meaning)) → BusLaw first (bus_state (λ d. meaning d) self.old.boxes self.old.transcript.items) → BusLaw first (bus_state (λ d. meaning d) self.new.boxes self.new.transcript.items) }
+        ensures law { (first : List (Option Meaning))
+            → BusLaw first
+            (bus_state (λ d. meaning d) self.old.boxes self.old.transcript.items)
+            → BusLaw first
+            (bus_state (λ d. meaning d) self.new.boxes self.new.transcript.items) }
     {
         self.take_out(device)
     }

@@ -30,4 +30,7 @@ abbrev pub RunsWriteConstants : Type 0
 RunsWriteConstants =
     (constants : List ℕ) → length constants ≤ 1000 → All (λ c. c < 256) constants → (answers : List ℕ) → All (λ answer. answer < 2 ^ 64) answers → (schedule : List ℕ) →
     IsPrefix (run_image (early_image constants) answers schedule).made (map console_store constants)
-    × ((stop : Stop) → (run_image (early_image constants) answers schedule).finish ≡ Some stop → (stop ≡ Exit (pos 0)) × ((run_image (early_image constants) answers schedule).made ≡ map console_store constants))
+    × ((stop : Stop) → (run_image (early_image constants) answers schedule).finish ≡ Some stop
+    → (stop ≡ Exit (pos 0))
+    × ((run_image (early_image constants) answers schedule).made
+    ≡ map console_store constants))

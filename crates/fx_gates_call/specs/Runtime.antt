@@ -1,6 +1,8 @@
 -- What an image under plain calls has beside its compartments' code: the start, the thread switch and
 -- the abort stub.
-use Rattle.std.specs.Prelude.{ℕ, ◌+◌, ◌-◌, Bool, true, false, ◌==◌, if◌then◌else◌, pos, List, [], ◌∷◌, ◌++◌, length, replicate, slice_get, slice_index, Option, Some, None}
+use Rattle.std.specs.Prelude.{ℕ, ◌+◌, ◌-◌, Bool, true, false, ◌==◌, if◌then◌else◌, pos, List, []}
+use Rattle.std.specs.Prelude.{◌∷◌, ◌++◌, length, replicate, slice_get, slice_index, Option, Some}
+use Rattle.std.specs.Prelude.{None}
 use Rattle.fx_x64_forms.specs.declared.operand.Width.{Width}
 use Rattle.fx_x64_forms.specs.declared.operand.Width.TheVariants.{W8, W16, W32, W64}
 use Rattle.fx_x64_forms.specs.declared.operand.Reg.TheVariants.{Rax, Rdi}
@@ -99,4 +101,5 @@ map_with k start switch abort = record {
 }
 
 abbrev pub runtime_map : TProgram → Placement → Config → ℕ → RuntimeMap
-runtime_map p at k here = map_with k here (here + length (start p)) (here + length (up_to_abort p at k here))
+runtime_map p at k here =
+    map_with k here (here + length (start p)) (here + length (up_to_abort p at k here))

@@ -8,18 +8,22 @@
 use Rattle.std.specs.Prelude.{ℕ, ◌+◌, pos, List, [], ◌∷◌, ◌++◌}
 use Rattle.fx_x64_forms.specs.declared.operand.Width.TheVariants.{W64}
 use Rattle.fx_x64_forms.specs.declared.operand.Reg.{Reg}
-use Rattle.fx_x64_forms.specs.declared.operand.Reg.TheVariants.{Rax, Rcx, Rdx, Rsi, Rdi, Rsp, R8, R9, R11}
+use Rattle.fx_x64_forms.specs.declared.operand.Reg.TheVariants.{Rax, Rcx, Rdx, Rsi, Rdi, Rsp, R8}
+use Rattle.fx_x64_forms.specs.declared.operand.Reg.TheVariants.{R9, R11}
 use Rattle.fx_x64_forms.specs.declared.operand.Cond.TheVariants.{E, Ne, Ae}
 use Rattle.fx_x64_forms.specs.declared.inst.AluOp.TheVariants.{Add, Cmp}
 use Rattle.fx_x64_forms.specs.declared.inst.Inst.TheVariants as inst
 use Rattle.fx_x64_forms.specs.declared.piece.Target.TheVariants.{Label}
 use Rattle.fx_x64_forms.specs.declared.piece.Piece.{Piece}
-use Rattle.fx_templates_core.specs.Pieces.{plain, set, copy, load, store, alu, alu_number, branch, jump}
+use Rattle.fx_templates_core.specs.Pieces.{plain, set, copy, load, store, alu, alu_number, branch}
+use Rattle.fx_templates_core.specs.Pieces.{jump}
 use Rattle.fx_templates_core.specs.Memory.{thread_number}
 
 -- the number of a thread in a register becomes the place of its words in the table
 abbrev pub words_of : Reg → ℕ → List Piece
-words_of reg table = set Rcx (pos 8) ∷ plain (inst.Imul W64 reg Rcx) ∷ plain (inst.MovImm64 Rcx table) ∷ alu Add reg Rcx ∷ []
+words_of reg table =
+    set Rcx (pos 8) ∷ plain (inst.Imul W64 reg Rcx) ∷ plain (inst.MovImm64 Rcx table)
+    ∷ alu Add reg Rcx ∷ []
 
 -- the machine stops with a number: 2, no such thread; 3, there are sixteen
 abbrev pub stop : ℕ → List Piece
@@ -61,7 +65,8 @@ abbrev pub wait_here : ℕ → List Piece
 wait_here to = store R11 (pos 0) Rsp ∷ jump (Label to) ∷ []
 
 abbrev pub to_other : (table bad resume : ℕ) → List Piece
-to_other table bad resume = if_no_number bad ++ other_words table ++ if_not_live bad ++ wait_here resume
+to_other table bad resume =
+    if_no_number bad ++ other_words table ++ if_not_live bad ++ wait_here resume
 
 -- ---- the running thread has ended
 
@@ -80,7 +85,8 @@ resume_other = store Rdx (pos 0) Rdi ∷ load Rsp R9 (pos 0) ∷ plain inst.Ret 
 -- its number, how many there are, to RAX; RDX points at it
 abbrev pub next_number : (table full : ℕ) → List Piece
 next_number table full =
-    plain (inst.MovImm64 Rdx (table + 256)) ∷ load Rax Rdx (pos 0) ∷ alu_number Cmp Rax (pos 16) ∷ branch Ae full ∷ []
+    plain (inst.MovImm64 Rdx (table + 256)) ∷ load Rax Rdx (pos 0) ∷ alu_number Cmp Rax (pos 16)
+    ∷ branch Ae full ∷ []
 
 abbrev pub new_words : ℕ → List Piece
 new_words table = copy R9 Rax ∷ words_of R9 table
@@ -93,23 +99,27 @@ now_live = set Rcx (pos 1) ∷ store R9 (pos 128) Rcx ∷ []
 
 -- RDX to the word on its stack at which it begins, which in thread 0 would be `top`
 abbrev pub new_stack : (stride top : ℕ) → List Piece
-new_stack stride top = set Rdx (pos stride) ∷ plain (inst.Imul W64 Rdx Rax) ∷ alu_number Add Rdx (pos top) ∷ []
+new_stack stride top =
+    set Rdx (pos stride) ∷ plain (inst.Imul W64 Rdx Rax) ∷ alu_number Add Rdx (pos top) ∷ []
 
 -- the start's address, and above it the argument
 abbrev pub begin_there : List Piece
-begin_there = load Rcx Rsp (pos 8) ∷ store Rdx (pos 0) Rcx ∷ store Rdx (pos 8) Rdi ∷ store R9 (pos 0) Rdx ∷ []
+begin_there =
+    load Rcx Rsp (pos 8) ∷ store Rdx (pos 0) Rcx ∷ store Rdx (pos 8) Rdi ∷ store R9 (pos 0) Rdx ∷ []
 
 abbrev pub count_thread : (table full : ℕ) → List Piece
 count_thread table full = next_number table full ++ new_words table ++ one_more ++ now_live
 
 abbrev pub make_thread : (table stride top full : ℕ) → List Piece
-make_thread table stride top full = count_thread table full ++ new_stack stride top ++ begin_there ++ plain inst.Ret ∷ []
+make_thread table stride top full =
+    count_thread table full ++ new_stack stride top ++ begin_there ++ plain inst.Ret ∷ []
 
 -- ---- the whole, which begins at the piece `here`
 
 abbrev pub leave_running : (table here : ℕ) → List Piece
 leave_running table here =
-    dispatch table (here + 39) (here + 27) ++ unless_self (here + 15) ++ to_other table (here + 37) (here + 34)
+    dispatch table (here + 39) (here + 27) ++ unless_self (here + 15)
+    ++ to_other table (here + 37) (here + 34)
 
 abbrev pub go_on : ℕ → List Piece
 go_on table = end_running table ++ resume_other ++ stop 2

@@ -10,7 +10,10 @@ use Rattle.fx_gates_call.specs.Gates.{pieces_of_gate}
 use Rattle.fx_gates_call.specs.Runtime.{runtime_pieces}
 
 abbrev pub GatesAreRows : Type 0
-GatesAreRows = (a : Addresses) (function count : ℕ) (site : GateSite) → AreRows (pieces_of_gate a function count site)
+GatesAreRows =
+    (a : Addresses) (function count : ℕ) (site : GateSite)
+    → AreRows (pieces_of_gate a function count site)
 
 abbrev pub RuntimesAreRows : Type 0
-RuntimesAreRows = (p : TProgram) (at : Placement) (k : Config) (here : ℕ) → AreRows (runtime_pieces p at k here)
+RuntimesAreRows =
+    (p : TProgram) (at : Placement) (k : Config) (here : ℕ) → AreRows (runtime_pieces p at k here)

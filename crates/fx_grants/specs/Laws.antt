@@ -39,7 +39,13 @@ pub record GrantSetsHold (p : TProgram) (k : Config) (c : ℕ) : Type 0 where
   pub write_literal : (n : ℕ) → may_of (grants_of p k) c (Literal n) true ≡ false
   pub read_literal : (n : ℕ) → may_of (grants_of p k) c (Literal n) false ≡ true
   pub touch_local : (f l : ℕ) (write : Bool) → f < length p.functions
-      → HoldsAt (λ (g : TFunction). l < length g.locals → HoldsAt (λ (v : TLocal). may_of (grants_of p k) c (Local f l) write ≡ (denies_nothing k.mechanism || is_local_holder k g v c)) g.locals l) p.functions f
+      → HoldsAt
+      (λ (g : TFunction). l < length g.locals
+      → HoldsAt
+      (λ (v : TLocal). may_of (grants_of p k) c (Local f l) write
+      ≡ (denies_nothing k.mechanism || is_local_holder k g v c))
+      g.locals l)
+      p.functions f
 
 abbrev pub GrantSets : Type 0
 GrantSets = (p : TProgram) (k : Config) (c : ℕ) → c < length k.compartments → length k.compartments ≤ 16 → GrantSetsHold p k c

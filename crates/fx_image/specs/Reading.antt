@@ -4,7 +4,9 @@ use Rattle.std.specs.Prelude.{◌≡◌, ℕ, zero, suc, ◌==◌, nat_lt, if◌
 use Rattle.std.specs.Int.{w16, w32, w64, from_le_bytes}
 use Rattle.std.specs.Str.{bytes_eq}
 use Rattle.fx_image.specs.Spelling.{magic}
-use Rattle.fx_image.specs.Rules.{is_version, is_mechanism, is_count, are_stacks, are_compartments, are_sections, is_code, are_literals, are_objects, are_entries, are_stubs, is_in_runtime, are_owners, are_starts, first_unlisted}
+use Rattle.fx_image.specs.Rules.{is_version, is_mechanism, is_count, are_stacks, are_compartments}
+use Rattle.fx_image.specs.Rules.{are_sections, is_code, are_literals, are_objects, are_entries}
+use Rattle.fx_image.specs.Rules.{are_stubs, is_in_runtime, are_owners, are_starts, first_unlisted}
 use Rattle.fx_image.specs.declared.error.ImageError.{ImageError}
 use Rattle.fx_image.specs.declared.error.ImageError.TheVariants.{Magic, Version, Short, Extra, Field, KeySequence, OutOfMemory}
 use Rattle.fx_image.specs.declared.forms.Comp.{Comp}
@@ -268,7 +270,26 @@ back_at front bytes = do
   abort ← abort_at front.compartments front.code stubs.1
   owners ← owners_at (length front.compartments) abort.1
   starts ← starts_at owners.1
-  finished (record { version = front.head.version; mechanism = front.head.mechanism; stack_pages = front.head.stack_pages; threads = front.head.threads; scheduler = front.head.scheduler; home = front.head.home; compartments = front.compartments; sections = front.sections; code = front.code; literals = front.literals; objects = front.objects; entries = entries.0; stubs = stubs.0; abort = abort.0; owners = owners.0; starts = starts.0 }) starts.1
+  finished
+      (record {
+        version = front.head.version;
+        mechanism = front.head.mechanism;
+        stack_pages = front.head.stack_pages;
+        threads = front.head.threads;
+        scheduler = front.head.scheduler;
+        home = front.head.home;
+        compartments = front.compartments;
+        sections = front.sections;
+        code = front.code;
+        literals = front.literals;
+        objects = front.objects;
+        entries = entries.0;
+        stubs = stubs.0;
+        abort = abort.0;
+        owners = owners.0;
+        starts = starts.0;
+      })
+      starts.1
 
 -- The image that the bytes spell, all of them, or the first refusal in the order of the fields.
 unfoldable pub image_at : List ℕ → Result Image ImageError

@@ -9,7 +9,9 @@ use Rattle.fx_image.specs.Keys.{key_read, key_written, pkru_of}
 abbrev pub KeysHaveBits : Type 0
 KeysHaveBits =
     (sections : List Section) (scheduler c key : ℕ) → 2 ≤ key → key < 16
-    → (bit_at (pkru_of sections scheduler c) (2 * key) ≡ (if key_read sections c key then 0 else 1)) × (bit_at (pkru_of sections scheduler c) (2 * key + 1) ≡ (if key_written sections c key then 0 else 1))
+    → (bit_at (pkru_of sections scheduler c) (2 * key) ≡ (if key_read sections c key then 0 else 1))
+    × (bit_at (pkru_of sections scheduler c) (2 * key + 1)
+    ≡ (if key_written sections c key then 0 else 1))
 
 -- Key 0 is open to all, and key 1 for reading; the scheduler alone may write by key 1.
 abbrev pub FirstKeysAreOpen : Type 0

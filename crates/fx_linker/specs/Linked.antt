@@ -1,5 +1,6 @@
 -- The image of parts, or why there is none.
-use Rattle.std.specs.Prelude.{ℕ, ◌<◌, ◌≤◌, ◌≡◌, ◌++◌, ◌^◌, nat_lt, All, List, length, map, slice_index, Result, Ok, Err, if◌then◌else◌, IsTrue}
+use Rattle.std.specs.Prelude.{ℕ, ◌<◌, ◌≤◌, ◌≡◌, ◌++◌, ◌^◌, nat_lt, All, List, length, map}
+use Rattle.std.specs.Prelude.{slice_index, Result, Ok, Err, if◌then◌else◌, IsTrue}
 use Rattle.fx_config.specs.declared.configuration.Config.{Config}
 use Rattle.fx_c_ast.specs.declared.checked.TGlobal.{TGlobal}
 use Rattle.fx_c_ast.specs.declared.checked.TProgram.{TProgram}
@@ -17,7 +18,8 @@ use Rattle.fx_linker.specs.declared.error.LinkError.TheVariants.{CodeTooLong}
 use Rattle.fx_linker.specs.Places.{layout_of, function_places}
 use Rattle.fx_linker.specs.Entries.{homes, entry_numbers_of, entry_places}
 use Rattle.fx_linker.specs.Code.{range_code, ranges_code}
-use Rattle.fx_linker.specs.Data.{mechanism_number, section_of, comps_from, objects_from, literals_from, owners_from, starts_from, placed_stub}
+use Rattle.fx_linker.specs.Data.{mechanism_number, section_of, comps_from, objects_from}
+use Rattle.fx_linker.specs.Data.{literals_from, owners_from, starts_from, placed_stub}
 
 -- where the parts stand
 abbrev pub parts_layout : Parts → Layout
@@ -42,7 +44,8 @@ outer_reach parts p at = record {
 -- the compartments' ranges in order, and then the runtime's
 abbrev pub code_of : Parts → TProgram → Layout → List ℕ
 code_of parts p at =
-    ranges_code parts (inner_reach parts p at) at.ranges 0 parts.ranges ++ range_code parts (outer_reach parts p at) at.runtime parts.runtime
+    ranges_code parts (inner_reach parts p at) at.ranges 0 parts.ranges
+    ++ range_code parts (outer_reach parts p at) at.runtime parts.runtime
 
 -- the compartment of `main`
 abbrev pub home_of : Parts → TProgram → ℕ
@@ -60,7 +63,9 @@ image_at parts p places k at = record {
   sections = map section_of places.sections;
   code = code_of parts p at;
   literals = literals_from places.literals 0 0 p.literals;
-  objects = objects_from (struct_types p.structs) k.compartments parts.map.initials p.globals places.globals 0 places.sections;
+  objects =
+      objects_from (struct_types p.structs) k.compartments parts.map.initials p.globals places.globals
+      0 places.sections;
   entries = parts.entries;
   stubs = map (placed_stub at.runtime) parts.map.stubs;
   abort = slice_index at.runtime parts.map.abort;
@@ -87,6 +92,9 @@ pub record IsLinkable (parts : Parts) (p : TProgram) (places : Placement) (k : C
   pub ranges : All AreRows parts.ranges
   pub runtime : AreRows parts.runtime
   pub structs : StructsAreSized (struct_types p.structs)
-  pub globals : All (λ (v : TGlobal). IsSized (known_layouts (struct_types p.structs)) (length p.structs) (ty_tree v.ty)) p.globals
+  pub globals : All
+      (λ (v : TGlobal). IsSized (known_layouts (struct_types p.structs)) (length p.structs)
+      (ty_tree v.ty))
+      p.globals
   pub few : length k.compartments ≤ 16
   pub sections : length places.sections ≤ 2 ^ 16

@@ -1,5 +1,6 @@
 -- Where the pieces of an image's code stand, as offsets in the code (this project's own layout).
-use Rattle.std.specs.Prelude.{ℕ, ◌+◌, ◌*◌, ◌/◌, List, [], ◌∷◌, ◌++◌, length, map, slice_index, slice_index_or}
+use Rattle.std.specs.Prelude.{ℕ, ◌+◌, ◌*◌, ◌/◌, List, [], ◌∷◌, ◌++◌, length, map, slice_index}
+use Rattle.std.specs.Prelude.{slice_index_or}
 use Rattle.fx_x64_forms.specs.declared.piece.Piece.{Piece}
 use Rattle.fx_x64_code.specs.Spelling.{spelling}
 use Rattle.fx_linker.specs.declared.parts.PartSpot.{PartSpot}

@@ -35,7 +35,10 @@ held m a =
 -- Whether a region has one there.
 abbrev pub is_held : Memory → ℕ → Bool
 is_held m a =
-    by_region a (nat_lt (a - first_stack) (length m.stacks.items)) (nat_lt (a - sections_start) (length m.sections.items)) (nat_lt (a - word_start) (length m.word.items)) (nat_lt (a - mail_start) (length m.mail.items)) false
+    by_region a (nat_lt (a - first_stack) (length m.stacks.items))
+    (nat_lt (a - sections_start) (length m.sections.items))
+    (nat_lt (a - word_start) (length m.word.items))
+    (nat_lt (a - mail_start) (length m.mail.items)) false
 
 -- The byte at an address.
 abbrev pub memory_of : Image → Memory → ℕ → ℕ

@@ -159,7 +159,10 @@ fn read(
     requires few { vcpu < 16 }
     requires agree { Agrees image.now pages.old }
     requires asks { need inst.now (past r.old length) ≡ Need.Reads width address }
-    ensures acts { ActsBy (λ answers. perform image.now vcpu inst.now length r.old (world (memory_of image.now memory.now) answers)) r.old (memory_of image.now memory.now) result r.new (memory_of image.now memory.now) }
+    ensures acts { ActsBy
+        (λ answers. perform image.now vcpu inst.now length r.old
+        (world (memory_of image.now memory.now) answers))
+        r.old (memory_of image.now memory.now) result r.new (memory_of image.now memory.now) }
     ensures agree { Agrees image.now pages.new }
 {
     match look(
@@ -203,7 +206,10 @@ fn write(
     requires agree { Agrees image.now pages.old }
     requires laid { IsLaidOut image.now memory.old }
     requires asks { need inst.now (past r.old length) ≡ Need.Writes width address value }
-    ensures acts { ActsBy (λ answers. perform image.now vcpu inst.now length r.old (world (memory_of image.now memory.old) answers)) r.old (memory_of image.now memory.old) result r.new (memory_of image.now memory.new) }
+    ensures acts { ActsBy
+        (λ answers. perform image.now vcpu inst.now length r.old
+        (world (memory_of image.now memory.old) answers))
+        r.old (memory_of image.now memory.old) result r.new (memory_of image.now memory.new) }
     ensures agree { Agrees image.now pages.new }
     ensures laid { IsLaidOut image.now memory.new }
 {
@@ -244,7 +250,10 @@ fn perform(
     requires few { vcpu < 16 }
     requires agree { Agrees image.now pages.old }
     requires laid { IsLaidOut image.now memory.old }
-    ensures acts { ActsBy (λ answers. perform image.now vcpu inst.now length r.old (world (memory_of image.now memory.old) answers)) r.old (memory_of image.now memory.old) result r.new (memory_of image.now memory.new) }
+    ensures acts { ActsBy
+        (λ answers. perform image.now vcpu inst.now length r.old
+        (world (memory_of image.now memory.old) answers))
+        r.old (memory_of image.now memory.old) result r.new (memory_of image.now memory.new) }
     ensures agree { Agrees image.now pages.new }
     ensures laid { IsLaidOut image.now memory.new }
 {
@@ -429,7 +438,12 @@ fn perform_whole(
     requires few { vcpu < 16 }
     requires agree { Agrees image.now pages.old }
     requires laid { IsLaidOut image.now memory.old }
-    ensures done { IsTrue result → ActsBy (λ answers. perform image.now vcpu inst.now length r.old (world (memory_of image.now memory.old) answers)) r.old (memory_of image.now memory.old) Act.Done r.new (memory_of image.now memory.new) }
+    ensures done { IsTrue result
+        → ActsBy
+        (λ answers. perform image.now vcpu inst.now length r.old
+        (world (memory_of image.now memory.old) answers))
+        r.old (memory_of image.now memory.old) Act.Done r.new
+        (memory_of image.now memory.new) }
     ensures registers { result ≡ false → r.new ≡ r.old }
     ensures memory { result ≡ false → memory.new ≡ memory.old }
     ensures agree { Agrees image.now pages.new }
@@ -598,7 +612,12 @@ fn perform_common(
     requires few { vcpu < 16 }
     requires agree { Agrees image.now pages.old }
     requires laid { IsLaidOut image.now memory.old }
-    ensures done { IsTrue result → ActsBy (λ answers. perform image.now vcpu inst.now length r.old (world (memory_of image.now memory.old) answers)) r.old (memory_of image.now memory.old) Act.Done r.new (memory_of image.now memory.new) }
+    ensures done { IsTrue result
+        → ActsBy
+        (λ answers. perform image.now vcpu inst.now length r.old
+        (world (memory_of image.now memory.old) answers))
+        r.old (memory_of image.now memory.old) Act.Done r.new
+        (memory_of image.now memory.new) }
     ensures registers { result ≡ false → r.new ≡ r.old }
     ensures memory { result ≡ false → memory.new ≡ memory.old }
     ensures agree { Agrees image.now pages.new }
@@ -670,7 +689,12 @@ fn perform_quick(
     requires few { vcpu < 16 }
     requires agree { Agrees image.now pages.old }
     requires laid { IsLaidOut image.now memory.old }
-    ensures done { IsTrue result → ActsBy (λ answers. perform image.now vcpu inst.now length r.old (world (memory_of image.now memory.old) answers)) r.old (memory_of image.now memory.old) Act.Done r.new (memory_of image.now memory.new) }
+    ensures done { IsTrue result
+        → ActsBy
+        (λ answers. perform image.now vcpu inst.now length r.old
+        (world (memory_of image.now memory.old) answers))
+        r.old (memory_of image.now memory.old) Act.Done r.new
+        (memory_of image.now memory.new) }
     ensures registers { result ≡ false → r.new ≡ r.old }
     ensures memory { result ≡ false → memory.new ≡ memory.old }
     ensures agree { Agrees image.now pages.new }
@@ -700,7 +724,12 @@ pub fn instruct_whole(
     requires few { vcpu < 16 }
     requires agree { Agrees image.now pages.old }
     requires laid { IsLaidOut image.now memory.old }
-    ensures done { IsTrue result → ActsBy (λ answers. move image.now vcpu r.old (world (memory_of image.now memory.old) answers)) r.old (memory_of image.now memory.old) Act.Done r.new (memory_of image.now memory.new) }
+    ensures done { IsTrue result
+        → ActsBy
+        (λ answers. move image.now vcpu r.old
+        (world (memory_of image.now memory.old) answers))
+        r.old (memory_of image.now memory.old) Act.Done r.new
+        (memory_of image.now memory.new) }
     ensures registers { result ≡ false → r.new ≡ r.old }
     ensures memory { result ≡ false → memory.new ≡ memory.old }
     ensures agree { Agrees image.now pages.new }

@@ -51,7 +51,14 @@ impl Machine {
     /// A machine at boot. It takes all its memory here, but for the transcript's.
     pub fn boot(alloc: Global, image: &Image, bus: Bus) -> Result<Machine, AllocError>
         requires { IsImage image.now }
-        ensures { IfOk result (λ m. running_of m.image m.memory m.cpus.items (bus_state (λ d. (⟦<dyn Device as Device>⟧ d.vtable).meaning d.value) m.bus.boxes m.bus.transcript.items) m.stop ≡ booted image.now (bus_state (λ d. (⟦<dyn Device as Device>⟧ d.vtable).meaning d.value) bus.boxes bus.transcript.items)) }
+        ensures { IfOk result
+            (λ m. running_of m.image m.memory m.cpus.items
+            (bus_state (λ d. (⟦<dyn Device as Device>⟧ d.vtable).meaning d.value)
+            m.bus.boxes m.bus.transcript.items)
+            m.stop
+            ≡ booted image.now
+            (bus_state (λ d. (⟦<dyn Device as Device>⟧ d.vtable).meaning d.value)
+            bus.boxes bus.transcript.items)) }
     {
         let copy = copy_image(alloc, image)?;
         let code = Code::decode(alloc, image)?;
@@ -84,7 +91,13 @@ impl Machine {
     fn step(&mut self, c: u8) -> Act
         requires there { c < length self.old.cpus.items }
         requires few { c < 16 }
-        ensures acts { ActsBy (λ answers. move self.old.image c (cpus_of self.old.image self.old.cpus.items c) (world (memory_of self.old.image self.old.memory) answers)) (cpus_of self.old.image self.old.cpus.items c) (memory_of self.old.image self.old.memory) result (cpus_of self.old.image self.new.cpus.items c) (memory_of self.old.image self.new.memory) }
+        ensures acts { ActsBy
+            (λ answers. move self.old.image c (cpus_of self.old.image self.old.cpus.items c)
+            (world (memory_of self.old.image self.old.memory) answers))
+            (cpus_of self.old.image self.old.cpus.items c)
+            (memory_of self.old.image self.old.memory) result
+            (cpus_of self.old.image self.new.cpus.items c)
+            (memory_of self.old.image self.new.memory) }
         ensures cpus { self.new.cpus.items ≡ slice_set self.old.cpus.items c (cpus_of self.old.image self.new.cpus.items c) }
         ensures image { self.new.image ≡ self.old.image }
         ensures bus { self.new.bus ≡ self.old.bus }
@@ -106,7 +119,14 @@ impl Machine {
     fn went(&mut self, c: u8) -> bool
         requires there { c < length self.old.cpus.items }
         requires few { c < 16 }
-        ensures done { IsTrue result → ActsBy (λ answers. move self.old.image c (cpus_of self.old.image self.old.cpus.items c) (world (memory_of self.old.image self.old.memory) answers)) (cpus_of self.old.image self.old.cpus.items c) (memory_of self.old.image self.old.memory) Act.Done (cpus_of self.old.image self.new.cpus.items c) (memory_of self.old.image self.new.memory) }
+        ensures done { IsTrue result
+            → ActsBy
+            (λ answers. move self.old.image c (cpus_of self.old.image self.old.cpus.items c)
+            (world (memory_of self.old.image self.old.memory) answers))
+            (cpus_of self.old.image self.old.cpus.items c)
+            (memory_of self.old.image self.old.memory) Act.Done
+            (cpus_of self.old.image self.new.cpus.items c)
+            (memory_of self.old.image self.new.memory) }
         ensures registers { result ≡ false → self.new.cpus.items ≡ self.old.cpus.items }
         ensures memory { result ≡ false → self.new.memory ≡ self.old.memory }
         ensures cpus { self.new.cpus.items ≡ slice_set self.old.cpus.items c (cpus_of self.old.image self.new.cpus.items c) }
@@ -128,7 +148,16 @@ impl Machine {
     #[inline(never)]
     fn turn_any(&mut self, v: u64) -> Turn
         requires { ⊤ }
-        ensures { Turned (running_of self.old.image self.old.memory self.old.cpus.items (bus_state (λ d. (⟦<dyn Device as Device>⟧ d.vtable).meaning d.value) self.old.bus.boxes self.old.bus.transcript.items) self.old.stop) v result (running_of self.new.image self.new.memory self.new.cpus.items (bus_state (λ d. (⟦<dyn Device as Device>⟧ d.vtable).meaning d.value) self.new.bus.boxes self.new.bus.transcript.items) self.new.stop) }
+        ensures { Turned
+            (running_of self.old.image self.old.memory self.old.cpus.items
+            (bus_state (λ d. (⟦<dyn Device as Device>⟧ d.vtable).meaning d.value)
+            self.old.bus.boxes self.old.bus.transcript.items)
+            self.old.stop)
+            v result
+            (running_of self.new.image self.new.memory self.new.cpus.items
+            (bus_state (λ d. (⟦<dyn Device as Device>⟧ d.vtable).meaning d.value)
+            self.new.bus.boxes self.new.bus.transcript.items)
+            self.new.stop) }
     {
         match self.stop {
             Some(stop) => Turn::Stopped(stop),
@@ -157,7 +186,16 @@ impl Machine {
     #[inline]
     pub fn turn(&mut self, v: u64) -> Turn
         requires { ⊤ }
-        ensures { Turned (running_of self.old.image self.old.memory self.old.cpus.items (bus_state (λ d. (⟦<dyn Device as Device>⟧ d.vtable).meaning d.value) self.old.bus.boxes self.old.bus.transcript.items) self.old.stop) v result (running_of self.new.image self.new.memory self.new.cpus.items (bus_state (λ d. (⟦<dyn Device as Device>⟧ d.vtable).meaning d.value) self.new.bus.boxes self.new.bus.transcript.items) self.new.stop) }
+        ensures { Turned
+            (running_of self.old.image self.old.memory self.old.cpus.items
+            (bus_state (λ d. (⟦<dyn Device as Device>⟧ d.vtable).meaning d.value)
+            self.old.bus.boxes self.old.bus.transcript.items)
+            self.old.stop)
+            v result
+            (running_of self.new.image self.new.memory self.new.cpus.items
+            (bus_state (λ d. (⟦<dyn Device as Device>⟧ d.vtable).meaning d.value)
+            self.new.bus.boxes self.new.bus.transcript.items)
+            self.new.stop) }
     {
         match self.stop {
             Some(stop) => Turn::Stopped(stop),
@@ -174,8 +212,22 @@ impl Machine {
 
     /// Executes the load that waits, with this answer.
     pub fn give(&mut self, v: u64, answer: u64) -> Turn
-        requires { Waits (running_of self.old.image self.old.memory self.old.cpus.items (bus_state (λ d. (⟦<dyn Device as Device>⟧ d.vtable).meaning d.value) self.old.bus.boxes self.old.bus.transcript.items) self.old.stop) v }
-        ensures { Gave (running_of self.old.image self.old.memory self.old.cpus.items (bus_state (λ d. (⟦<dyn Device as Device>⟧ d.vtable).meaning d.value) self.old.bus.boxes self.old.bus.transcript.items) self.old.stop) v answer result (running_of self.new.image self.new.memory self.new.cpus.items (bus_state (λ d. (⟦<dyn Device as Device>⟧ d.vtable).meaning d.value) self.new.bus.boxes self.new.bus.transcript.items) self.new.stop) }
+        requires { Waits
+            (running_of self.old.image self.old.memory self.old.cpus.items
+            (bus_state (λ d. (⟦<dyn Device as Device>⟧ d.vtable).meaning d.value)
+            self.old.bus.boxes self.old.bus.transcript.items)
+            self.old.stop)
+            v }
+        ensures { Gave
+            (running_of self.old.image self.old.memory self.old.cpus.items
+            (bus_state (λ d. (⟦<dyn Device as Device>⟧ d.vtable).meaning d.value)
+            self.old.bus.boxes self.old.bus.transcript.items)
+            self.old.stop)
+            v answer result
+            (running_of self.new.image self.new.memory self.new.cpus.items
+            (bus_state (λ d. (⟦<dyn Device as Device>⟧ d.vtable).meaning d.value)
+            self.new.bus.boxes self.new.bus.transcript.items)
+            self.new.stop) }
     {
         let c = self.vcpu(v);
         match self.step(c) {
@@ -194,7 +246,11 @@ impl Machine {
     pub fn unplug(&mut self, device: u16) -> bool
         requires { ⊤ }
         ensures there { IsTrue result ↔ IsSome (box_of device (map (option_map (λ d. (⟦<dyn Device as Device>⟧ d.vtable).meaning d.value)) self.old.bus.boxes)) }
-        ensures boxes { map (option_map (λ d. (⟦<dyn Device as Device>⟧ d.vtable).meaning d.value)) self.new.bus.boxes ≡ with_box device None (map (option_map (λ d. (⟦<dyn Device as Device>⟧ d.vtable).meaning d.value)) self.old.bus.boxes) }
+        ensures boxes { map (option_map (λ d. (⟦<dyn Device as Device>⟧ d.vtable).meaning d.value))
+            self.new.bus.boxes
+            ≡ with_box device None
+            (map (option_map (λ d. (⟦<dyn Device as Device>⟧ d.vtable).meaning d.value))
+            self.old.bus.boxes) }
         ensures transcript { self.new.bus.transcript ≡ self.old.bus.transcript }
         ensures image { self.new.image ≡ self.old.image }
         ensures memory { self.new.memory ≡ self.old.memory }

@@ -39,7 +39,11 @@ pub fn console_load(answer: u64) -> DeviceOp
 /// Makes an operation, and gives the answer to a load, and 0 to a store; else what the turn answers. A load
 /// of the console's register 0 waits for its answer.
 pub fn operate(bus: &mut Bus, op: DeviceOp) -> Result<u64, Turn>
-    ensures { Operated op result (bus_state (λ d. (⟦<dyn Device as Device>⟧ d.vtable).meaning d.value) bus.old.boxes bus.old.transcript.items) (bus_state (λ d. (⟦<dyn Device as Device>⟧ d.vtable).meaning d.value) bus.new.boxes bus.new.transcript.items) }
+    ensures { Operated op result
+        (bus_state (λ d. (⟦<dyn Device as Device>⟧ d.vtable).meaning d.value) bus.old.boxes
+        bus.old.transcript.items)
+        (bus_state (λ d. (⟦<dyn Device as Device>⟧ d.vtable).meaning d.value) bus.new.boxes
+        bus.new.transcript.items) }
 {
     if op.device == 0 && op.reg == 0 {
         if !op.write {

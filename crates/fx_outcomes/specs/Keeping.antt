@@ -23,10 +23,16 @@ Refines {O} {E} Undefined a b = (a ≡ b) ⊎ (Lost Undefined a.finish × IsPref
 -- `machine` the one by each schedule.
 pub record Keeps (Operation End Stop : Type 0) (Undefined : End → Type 0) (Corresponds : End → Stop → Type 0) (processors : ℕ) (source : ℕ → Outcome Operation End) (machine : List ℕ → Outcome Operation Stop) : Type 0 where
   -- Each prefix of the operations made is one of the source's, or the source was undefined before.
-  pub prefix : (us : List ℕ) (i : ℕ) → i ≤ length (machine us).made → (k : ℕ) × ((take i (machine us).made ≡ take i (source k).made) ⊎ (Lost Undefined (source k).finish × (length (source k).made < i)))
+  pub prefix : (us : List ℕ) (i : ℕ) → i ≤ length (machine us).made
+      → (k : ℕ)
+      × ((take i (machine us).made ≡ take i (source k).made) ⊎
+      (Lost Undefined (source k).finish × (length (source k).made < i)))
   -- A stop comes with the source's operations and the end that corresponds, or the source's end is
   -- undefined.
   pub stops : (us : List ℕ) (t : Stop) → (machine us).finish ≡ Some t → (k : ℕ) × (Alike Corresponds (source k) (machine us) ⊎ Lost Undefined (source k).finish)
   -- Within 256 rounds for each unit of cost the machine has made what the source makes, and has
   -- stopped where it ends.
-  pub rounds : (us : List ℕ) (k : ℕ) → HasRounds processors (256 * k) us → (Lost Undefined (source k).finish → ⊥) → IsPrefix (source k).made (machine us).made × ((e : End) → (source k).finish ≡ Some e → Alike Corresponds (source k) (machine us))
+  pub rounds : (us : List ℕ) (k : ℕ) → HasRounds processors (256 * k) us
+      → (Lost Undefined (source k).finish → ⊥)
+      → IsPrefix (source k).made (machine us).made
+      × ((e : End) → (source k).finish ≡ Some e → Alike Corresponds (source k) (machine us))

@@ -18,10 +18,19 @@ use Rattle.fx_run_core.specs.declared.watch.Watch.{Watch}
 pub record Reached (image : Image) (schedule : List ℕ) (m : Running) (n : ℕ) : Type 0 where
   pub image_is : m.image ≡ image
   pub going : m.stop ≡ None
-  pub run_is : (answers rest : List ℕ) → run (turn (move image)) (vcpus image) (names schedule n ++ rest) (boot image (taken_by m.bus.transcript ++ answers)) ≡ before m.bus.transcript (run (turn (move image)) (vcpus image) rest (state_of m answers))
-  pub turns_is : (answers rest : List ℕ) → turns (turn (move image)) (vcpus image) (names schedule n ++ rest) (boot image (taken_by m.bus.transcript ++ answers)) ≡ n + turns (turn (move image)) (vcpus image) rest (state_of m answers)
+  pub run_is : (answers rest : List ℕ)
+      → run (turn (move image)) (vcpus image) (names schedule n ++ rest)
+      (boot image (taken_by m.bus.transcript ++ answers))
+      ≡ before m.bus.transcript (run (turn (move image)) (vcpus image) rest (state_of m answers))
+  pub turns_is : (answers rest : List ℕ)
+      → turns (turn (move image)) (vcpus image) (names schedule n ++ rest)
+      (boot image (taken_by m.bus.transcript ++ answers))
+      ≡ n + turns (turn (move image)) (vcpus image) rest (state_of m answers)
   pub fed_is : (answers rest : List ℕ) → is_fed image (names schedule n ++ rest) (boot image (taken_by m.bus.transcript ++ answers)) ≡ is_fed image rest (state_of m answers)
-  pub after_is : (answers rest : List ℕ) → after (turn (move image)) (vcpus image) (names schedule n ++ rest) (boot image (taken_by m.bus.transcript ++ answers)) ≡ after (turn (move image)) (vcpus image) rest (state_of m answers)
+  pub after_is : (answers rest : List ℕ)
+      → after (turn (move image)) (vcpus image) (names schedule n ++ rest)
+      (boot image (taken_by m.bus.transcript ++ answers))
+      ≡ after (turn (move image)) (vcpus image) rest (state_of m answers)
 
 -- A device's box, and its operations so far: it is in its box and its operations led to what it holds, or
 -- it was unplugged after the first so many.

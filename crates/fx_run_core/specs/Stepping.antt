@@ -45,6 +45,8 @@ EndsBy old v new taken gained left lost input read out put (Device i) =
 EndsBy old v new taken gained left lost input read out put ReadFault =
     AsksInput old (vcpu_of old v) × Rose input read × (new.bus ≡ old.bus) × Told Same taken gained × Told Same left lost
 EndsBy old v new taken gained left lost input read out put WriteFault =
-    (made : List DeviceOp) × GoesOn old (vcpu_of old v) made new × Reaches made old.bus new.bus × (inputs made ≡ []) × (byte : ℕ) × (outputs made ≡ byte ∷ []) × Rose out put × Told Same taken gained × Told Same left lost
+    (made : List DeviceOp) × GoesOn old (vcpu_of old v) made new × Reaches made old.bus new.bus
+    × (inputs made ≡ []) × (byte : ℕ) × (outputs made ≡ byte ∷ []) × Rose out put
+    × Told Same taken gained × Told Same left lost
 EndsBy old v new taken gained left lost input read out put OutOfMemory =
     (new.bus ≡ old.bus) × Told Same taken gained × (Told Same left lost ⊎ Told LostOne left lost)

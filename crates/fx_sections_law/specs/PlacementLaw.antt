@@ -5,10 +5,12 @@ use Rattle.fx_c_ast.specs.declared.checked.TProgram.{TProgram}
 use Rattle.fx_grants.specs.declared.grants.Grants.{Grants}
 use Rattle.fx_sections.specs.declared.placement.Placement.{Placement}
 use Rattle.fx_sections.specs.Pairs.{is_keyed}
-use Rattle.fx_sections.specs.Placement.{IsPlaceable, program_pairs, program_rooms, placement_of, placed}
+use Rattle.fx_sections.specs.Placement.{IsPlaceable, program_pairs, program_rooms, placement_of}
+use Rattle.fx_sections.specs.Placement.{placed}
 use Rattle.fx_vm_pages.specs.Entries.{is_writable}
 use Rattle.fx_vm_pages.specs.declared.entry.PageFlags.{PageFlags}
-use Rattle.fx_sections_law.specs.Laws.{HasDistinctPairs, HasSectionsApart, HasGlobalsInSections, HasGlobalsApart, HasRuntimeFirst, HasRegionsApart}
+use Rattle.fx_sections_law.specs.Laws.{HasDistinctPairs, HasSectionsApart, HasGlobalsInSections}
+use Rattle.fx_sections_law.specs.Laws.{HasGlobalsApart, HasRuntimeFirst, HasRegionsApart}
 use Rattle.fx_sections_law.specs.Granules.{SharesNoGranule}
 use Rattle.fx_sections_law.specs.Permits.{Permits}
 use Rattle.fx_sections_law.specs.Table.{HasOneRowEach}
@@ -30,9 +32,13 @@ pub record PlacementLaw (p : TProgram) (g : Grants) (k : Config) (at : Placement
   -- The table has exactly one row for each object, and addresses ascend.
   pub table : HasOneRowEach p g k at
   -- Under protection keys a compartment's PKRU value permits exactly what the pairs grant.
-  pub keys : (scheduler c : ℕ) (flags : PageFlags) (frame : ℕ) → is_keyed k.mechanism ≡ true → is_writable flags ≡ true
-      → Permits k.mechanism 0x10000 (program_pairs g k) (program_rooms p g k) scheduler c flags frame
+  pub keys : (scheduler c : ℕ) (flags : PageFlags) (frame : ℕ) → is_keyed k.mechanism ≡ true
+      → is_writable flags ≡ true
+      → Permits k.mechanism 0x10000 (program_pairs g k) (program_rooms p g k) scheduler c flags
+      frame
 
 -- a program that is placed is placed so
 abbrev pub PlacementsKeepTheLaw : Type 0
-PlacementsKeepTheLaw = (p : TProgram) (g : Grants) (k : Config) (at : Placement) → IsPlaceable p g k → placed p g k ≡ Ok at → PlacementLaw p g k at
+PlacementsKeepTheLaw =
+    (p : TProgram) (g : Grants) (k : Config) (at : Placement) → IsPlaceable p g k
+    → placed p g k ≡ Ok at → PlacementLaw p g k at

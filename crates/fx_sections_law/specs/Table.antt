@@ -1,5 +1,6 @@
 -- The table of a placement: a row for each object that has an address for good, in order of address.
-use Rattle.std.specs.Prelude.{◌≡◌, ℕ, zero, suc, ◌+◌, ◌*◌, ◌≤◌, ◌==◌, List, [], ◌∷◌, ◌++◌, codes, length, map, filter, slice_index, AllPairs, IsPermutation, Ok}
+use Rattle.std.specs.Prelude.{◌≡◌, ℕ, zero, suc, ◌+◌, ◌*◌, ◌≤◌, ◌==◌, List, [], ◌∷◌, ◌++◌, codes}
+use Rattle.std.specs.Prelude.{length, map, filter, slice_index, AllPairs, IsPermutation, Ok}
 use Rattle.fx_config.specs.declared.configuration.Compartment.{Compartment}
 use Rattle.fx_config.specs.declared.configuration.Config.{Config}
 use Rattle.fx_c_ast.specs.declared.checked.TGlobal.{TGlobal}
@@ -85,4 +86,6 @@ pub record HasOneRowEach (p : TProgram) (g : Grants) (k : Config) (at : Placemen
 
 -- the table of a placed program has exactly one row for each of its objects, and addresses ascend
 abbrev pub TablesAscend : Type 0
-TablesAscend = (p : TProgram) (g : Grants) (k : Config) (at : Placement) → IsPlaceable p g k → placed p g k ≡ Ok at → HasOneRowEach p g k at
+TablesAscend =
+    (p : TProgram) (g : Grants) (k : Config) (at : Placement) → IsPlaceable p g k
+    → placed p g k ≡ Ok at → HasOneRowEach p g k at

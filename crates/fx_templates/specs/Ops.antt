@@ -1,6 +1,7 @@
 -- The machine code of each op. So many operands are pending before it: the latest one is in RAX, each other one in its
 -- slot, each as its word, zero-extended; and so they are behind it.
-use Rattle.std.specs.Prelude.{ℕ, ◌-◌, Bool, true, false, zero, suc, List, [], ◌∷◌, slice_get, slice_index, Option, Some, None}
+use Rattle.std.specs.Prelude.{ℕ, ◌-◌, Bool, true, false, zero, suc, List, [], ◌∷◌, slice_get}
+use Rattle.std.specs.Prelude.{slice_index, Option, Some, None}
 use Rattle.fx_x64_forms.specs.declared.operand.Width.TheVariants.{W64}
 use Rattle.fx_x64_forms.specs.declared.operand.Cond.{Cond}
 use Rattle.fx_x64_forms.specs.declared.piece.Target.TheVariants.{Label}
@@ -20,8 +21,11 @@ use Rattle.fx_match_rel.specs.Frames.{width_of, is_signed, scalar_of}
 use Rattle.fx_templates_core.specs.declared.operands.Operand.{Operand}
 use Rattle.fx_templates_core.specs.Pieces.{jump, reload, nothing}
 use Rattle.fx_templates_core.specs.Operands.{below_left}
-use Rattle.fx_templates_core.specs.Cores.{condition, compared, binary, unary_of, compare_jump, jump_zero, converted}
-use Rattle.fx_templates_core.specs.Memory.{push_number, push_address, push_variable, store_variable, load_through, store_through, device_load, device_store, push_thread}
+use Rattle.fx_templates_core.specs.Cores.{condition, compared, binary, unary_of, compare_jump}
+use Rattle.fx_templates_core.specs.Cores.{jump_zero, converted}
+use Rattle.fx_templates_core.specs.Memory.{push_number, push_address, push_variable, store_variable}
+use Rattle.fx_templates_core.specs.Memory.{load_through, store_through, device_load, device_store}
+use Rattle.fx_templates_core.specs.Memory.{push_thread}
 use Rattle.fx_templates_core.specs.Pointers.{index, index_left, back, difference, offset}
 use Rattle.fx_templates_core.specs.Copying.{copied}
 use Rattle.fx_templates_core.specs.Calls.{return, switch, spawn}
@@ -39,15 +43,18 @@ dropped locals zero = nothing
 dropped locals (suc k) = reload locals (suc k)
 
 abbrev pub binary_with : Binop → IntType → (locals count : ℕ) → Operand → List Piece
-binary_with o i locals count right = binary o (is_signed i) (operator_width i) locals (below_left right count) right
+binary_with o i locals count right =
+    binary o (is_signed i) (operator_width i) locals (below_left right count) right
 
 -- pointers are compared as unsigned words
 abbrev pub pointers_with : Binop → (locals count : ℕ) → Operand → List Piece
-pointers_with o locals count right = compared (condition false o) W64 locals (below_left right count) right
+pointers_with o locals count right =
+    compared (condition false o) W64 locals (below_left right count) right
 
 abbrev pub compare_jump_with : Binop → Compared → (locals count : ℕ) → Operand → ℕ → List Piece
 compare_jump_with o (Integers i) locals count right to =
-    compare_jump (condition (is_signed i) o) (operator_width i) locals (below_left right count) right to
+    compare_jump (condition (is_signed i) o) (operator_width i) locals (below_left right count)
+    right to
 compare_jump_with o Pointers locals count right to =
     compare_jump (condition false o) W64 locals (below_left right count) right to
 
@@ -58,20 +65,30 @@ index_with bytes locals count right = index bytes locals (below_left right count
 -- the piece `label`. What a gate becomes depends on the mechanism, and isn't defined here.
 abbrev pub code_of : Addresses → FrameTable → (here label count : ℕ) → Op → List Piece
 code_of a t here label count (op.Number w) = push_number t.locals count w
-code_of a t here label count (op.LocalAddr n) = push_address t.locals count (variable_at a t.slots n).mem
-code_of a t here label count (op.LoadLocal n) = push_variable t.locals count (variable_at a t.slots n)
-code_of a t here label count (op.StoreLocal n) = store_variable t.locals (count - 1) (variable_at a t.slots n)
-code_of a t here label count (op.GlobalAddr n) = push_number t.locals count (slice_index a.globals n)
-code_of a t here label count (op.LiteralAddr n) = push_number t.locals count (slice_index a.literals n)
+code_of a t here label count (op.LocalAddr n) =
+    push_address t.locals count (variable_at a t.slots n).mem
+code_of a t here label count (op.LoadLocal n) =
+    push_variable t.locals count (variable_at a t.slots n)
+code_of a t here label count (op.StoreLocal n) =
+    store_variable t.locals (count - 1) (variable_at a t.slots n)
+code_of a t here label count (op.GlobalAddr n) =
+    push_number t.locals count (slice_index a.globals n)
+code_of a t here label count (op.LiteralAddr n) =
+    push_number t.locals count (slice_index a.literals n)
 code_of a t here label count (op.Load ty) = load_through (width_in (scalar_of ty))
-code_of a t here label count (op.Store ty) = store_through (width_in (scalar_of ty)) t.locals (count - 2)
+code_of a t here label count (op.Store ty) =
+    store_through (width_in (scalar_of ty)) t.locals (count - 2)
 code_of a t here label count (op.Copy bytes) = copied here t.locals (count - 2) bytes
 code_of a t here label count (op.Unary o i) = unary_of o (operator_width i)
-code_of a t here label count (op.Binary o i right) = binary_with o i t.locals count (operand_of a t.slots right)
-code_of a t here label count (op.PtrCompare o right) = pointers_with o t.locals count (operand_of a t.slots right)
+code_of a t here label count (op.Binary o i right) =
+    binary_with o i t.locals count (operand_of a t.slots right)
+code_of a t here label count (op.PtrCompare o right) =
+    pointers_with o t.locals count (operand_of a t.slots right)
 code_of a t here label count (op.CompareJump o of right to) = compare_jump_with o of t.locals count (operand_of a t.slots right) label
-code_of a t here label count (op.Convert from to) = converted (width_of from) (is_signed from) (width_of to)
-code_of a t here label count (op.Index bytes right) = index_with bytes t.locals count (operand_of a t.slots right)
+code_of a t here label count (op.Convert from to) =
+    converted (width_of from) (is_signed from) (width_of to)
+code_of a t here label count (op.Index bytes right) =
+    index_with bytes t.locals count (operand_of a t.slots right)
 code_of a t here label count (op.IndexLeft bytes) = index_left bytes t.locals (count - 2)
 code_of a t here label count (op.Back bytes) = back bytes t.locals (count - 2)
 code_of a t here label count (op.Difference bytes) = difference bytes t.locals (count - 2)
@@ -83,7 +100,8 @@ code_of a t here label count (op.Gate f) = []
 code_of a t here label count (op.Spawn f) = spawn here f
 code_of a t here label count op.Switch = switch
 code_of a t here label count op.Me = push_thread t.locals count
-code_of a t here label count (op.DevLoad device register) = device_load t.locals count device register
+code_of a t here label count (op.DevLoad device register) =
+    device_load t.locals count device register
 code_of a t here label count (op.DevStore device register) = device_store device register
 code_of a t here label count op.Getc = device_load t.locals count 0 0
 code_of a t here label count op.Putc = device_store 0 0

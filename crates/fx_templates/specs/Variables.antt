@@ -26,7 +26,8 @@ abbrev pub slot_mem : Addresses → Slot → Mem
 slot_mem a s = record { base = Rbp; disp = pos (lift a s.shared) -ℤ pos s.below }
 
 abbrev pub variable_of : Addresses → Slot → Variable
-variable_of a s = record { mem = slot_mem a s; width = width_in s.scalar; signed = signed_in s.scalar }
+variable_of a s =
+    record { mem = slot_mem a s; width = width_in s.scalar; signed = signed_in s.scalar }
 
 -- a variable that isn't there
 abbrev pub no_variable : Variable

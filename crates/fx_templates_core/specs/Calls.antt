@@ -1,7 +1,8 @@
 -- Calls, returns and threads. Arguments go by registers (System V ABI for x86-64); a result is in RAX.
 use Rattle.std.specs.Prelude.{ℕ, ◌+◌, zero, suc, Bool, true, false, pos, List, [], ◌∷◌, ◌++◌}
 use Rattle.fx_x64_forms.specs.declared.operand.Reg.{Reg}
-use Rattle.fx_x64_forms.specs.declared.operand.Reg.TheVariants.{Rax, Rcx, Rdx, Rsi, Rdi, R8, R9, Rbp, Rsp}
+use Rattle.fx_x64_forms.specs.declared.operand.Reg.TheVariants.{Rax, Rcx, Rdx, Rsi, Rdi, R8, R9}
+use Rattle.fx_x64_forms.specs.declared.operand.Reg.TheVariants.{Rbp, Rsp}
 use Rattle.fx_x64_forms.specs.declared.inst.Inst.TheVariants as inst
 use Rattle.fx_x64_forms.specs.declared.piece.Target.{Target}
 use Rattle.fx_x64_forms.specs.declared.piece.Target.TheVariants.{Label, Function, Switch}

@@ -1,6 +1,7 @@
 -- Constants. No code but that of key gates holds the bytes 0F 01 EF (WRPKRU, SDM volume 2), so a constant whose bytes
 -- hold them is built from parts of 16 bits.
-use Rattle.std.specs.Prelude.{ℕ, ◌/◌, ◌%◌, ◌^◌, Bool, false, ◌||◌, ◌&&◌, not, ◌==◌, nat_lt, ℤ, pos, if◌then◌else◌, List, [], ◌∷◌, ◌++◌}
+use Rattle.std.specs.Prelude.{ℕ, ◌/◌, ◌%◌, ◌^◌, Bool, false, ◌||◌, ◌&&◌, not, ◌==◌, nat_lt, ℤ, pos}
+use Rattle.std.specs.Prelude.{if◌then◌else◌, List, [], ◌∷◌, ◌++◌}
 use Rattle.std.specs.Int.{w32, w64, cast_signed, cast_unsigned}
 use Rattle.fx_x64_forms.specs.declared.operand.Width.{Width}
 use Rattle.fx_x64_forms.specs.declared.operand.Width.TheVariants.{W8, W16, W32, W64}
@@ -19,7 +20,10 @@ begins_with_key n = n % 0x1000000 == 0xef010f
 -- whether the eight bytes of a number hold 0F 01 EF
 abbrev pub has_key : ℕ → Bool
 has_key n =
-    begins_with_key n || begins_with_key (n / 0x100) || begins_with_key (n / 0x10000) || begins_with_key (n / 0x1000000)
+    begins_with_key n
+    || begins_with_key (n / 0x100)
+    || begins_with_key (n / 0x10000)
+    || begins_with_key (n / 0x1000000)
     || begins_with_key (n / 0x100000000) || begins_with_key (n / 0x10000000000)
 
 -- sixteen bits more, where R10 is 2 ^ 16
@@ -32,7 +36,9 @@ first_part dst part = set dst (pos part) ∷ set R10 (pos 0x10000) ∷ []
 
 -- the three below it
 abbrev pub next_parts : Reg → ℕ → List Piece
-next_parts dst n = next_part dst (n / 0x100000000 % 0x10000) ++ next_part dst (n / 0x10000 % 0x10000) ++ next_part dst (n % 0x10000)
+next_parts dst n =
+    next_part dst (n / 0x100000000 % 0x10000) ++ next_part dst (n / 0x10000 % 0x10000)
+    ++ next_part dst (n % 0x10000)
 
 -- a constant built from four parts; it takes R10
 abbrev pub built : Reg → ℕ → List Piece

@@ -18,7 +18,9 @@ abbrev pub move_byte : List Piece
 move_byte = plain (inst.LoadZero W8 Rax (at_reg Rcx)) ∷ plain (inst.Store W8 (at_reg Rdx) Rax) ∷ []
 
 abbrev pub next_byte : ℕ → List Piece
-next_byte top = alu_number Add Rcx (pos 1) ∷ alu_number Add Rdx (pos 1) ∷ alu_number Sub R11 (pos 1) ∷ branch Ne top ∷ []
+next_byte top =
+    alu_number Add Rcx (pos 1) ∷ alu_number Add Rdx (pos 1) ∷ alu_number Sub R11 (pos 1)
+    ∷ branch Ne top ∷ []
 
 -- one byte, and again from the piece `top` where there are more
 abbrev pub copy_byte : ℕ → List Piece
@@ -27,4 +29,5 @@ copy_byte top = move_byte ++ next_byte top
 -- these pieces begin at a place of their list; k operands stay
 abbrev pub copied : (here locals k bytes : ℕ) → List Piece
 copied here locals k bytes =
-    copy_ends locals k bytes ++ copy_byte (here + length (copy_ends locals k bytes)) ++ reload locals k
+    copy_ends locals k bytes ++ copy_byte (here + length (copy_ends locals k bytes))
+    ++ reload locals k

@@ -90,7 +90,8 @@ abbrev pub divided : Bool → Width → (locals k : ℕ) → Operand → List Pi
 divided signed w locals k right = fetch locals k right ++ division signed w
 
 abbrev pub remainder : Bool → Width → (locals k : ℕ) → Operand → List Piece
-remainder signed w locals k right = divided signed w locals k right ++ plain (inst.Mov w Rax Rdx) ∷ []
+remainder signed w locals k right =
+    divided signed w locals k right ++ plain (inst.Mov w Rax Rdx) ∷ []
 
 -- ---- operators
 
@@ -127,7 +128,8 @@ unary_of unop.Addr w = nothing
 
 -- to a piece where the comparison is false
 abbrev pub compare_jump : Cond → Width → (locals k : ℕ) → Operand → (to : ℕ) → List Piece
-compare_jump c w locals k right to = combined alu_op.Cmp w locals k right ++ reload locals k ++ branch (opposite c) to ∷ []
+compare_jump c w locals k right to =
+    combined alu_op.Cmp w locals k right ++ reload locals k ++ branch (opposite c) to ∷ []
 
 -- to a piece where the operand above k others is 0 or null
 abbrev pub jump_zero : (locals k to : ℕ) → List Piece

@@ -8,7 +8,8 @@ use Rattle.fx_x64_forms.specs.declared.operand.Mem.{Mem}
 use Rattle.fx_x64_forms.specs.declared.inst.AluOp.TheVariants as alu_op
 use Rattle.fx_x64_forms.specs.declared.inst.Inst.TheVariants as inst
 use Rattle.fx_x64_forms.specs.declared.piece.Piece.{Piece}
-use Rattle.fx_templates_core.specs.Pieces.{plain, set, load, store, alu_number, load_slot, load_of, spill, reload}
+use Rattle.fx_templates_core.specs.Pieces.{plain, set, load, store, alu_number, load_slot, load_of}
+use Rattle.fx_templates_core.specs.Pieces.{spill, reload}
 use Rattle.fx_templates_core.specs.Constants.{constant}
 use Rattle.fx_templates_core.specs.declared.operands.Variable.{Variable}
 
@@ -33,7 +34,8 @@ load_through w = plain (load_of w Rax (at_reg Rax)) ∷ []
 
 -- the pointer is in slot k, the value in RAX
 abbrev pub store_through : Width → (locals k : ℕ) → List Piece
-store_through w locals k = load_slot Rcx locals k ∷ plain (inst.Store w (at_reg Rcx) Rax) ∷ reload locals k
+store_through w locals k =
+    load_slot Rcx locals k ∷ plain (inst.Store w (at_reg Rcx) Rax) ∷ reload locals k
 
 -- ---- devices and the running thread (this project's own layout)
 
@@ -42,11 +44,13 @@ abbrev pub device_place : (device register : ℕ) → ℕ
 device_place device register = 0xf100000 + 0x1000 * device + 8 * register
 
 abbrev pub device_load : (locals count device register : ℕ) → List Piece
-device_load locals count device register = spill locals count ++ set Rax (pos (device_place device register)) ∷ load Rax Rax (pos 0) ∷ []
+device_load locals count device register =
+    spill locals count ++ set Rax (pos (device_place device register)) ∷ load Rax Rax (pos 0) ∷ []
 
 -- what stays in RAX stands for the value Void
 abbrev pub device_store : (device register : ℕ) → List Piece
-device_store device register = set Rcx (pos (device_place device register)) ∷ store Rcx (pos 0) Rax ∷ []
+device_store device register =
+    set Rcx (pos (device_place device register)) ∷ store Rcx (pos 0) Rax ∷ []
 
 -- where the running thread's number is
 abbrev pub thread_place : ℕ
@@ -54,7 +58,8 @@ thread_place = 0xf000000
 
 -- the running thread's number, of sixteen, by an address that stands in a register
 abbrev pub thread_number : (dst base : Reg) → List Piece
-thread_number dst base = set base (pos thread_place) ∷ load dst base (pos 0) ∷ alu_number alu_op.And dst (pos 15) ∷ []
+thread_number dst base =
+    set base (pos thread_place) ∷ load dst base (pos 0) ∷ alu_number alu_op.And dst (pos 15) ∷ []
 
 abbrev pub push_thread : (locals count : ℕ) → List Piece
 push_thread locals count = spill locals count ++ thread_number Rax Rax

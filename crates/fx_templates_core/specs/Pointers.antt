@@ -30,7 +30,9 @@ back size locals k = fetch locals k Pending ++ scaled size ++ alu Sub Rax Rcx �
 
 -- RAX, a number of bytes, in elements
 abbrev pub in_elements : ℕ → List Piece
-in_elements size = if size == 1 then [] else plain inst.Cqo ∷ constant Rcx size ++ plain (inst.Unary Idiv W64 Rcx) ∷ []
+in_elements size =
+    if size == 1 then [] else plain inst.Cqo ∷ constant Rcx size
+    ++ plain (inst.Unary Idiv W64 Rcx) ∷ []
 
 -- the difference of two pointers
 abbrev pub difference : (size locals k : ℕ) → List Piece

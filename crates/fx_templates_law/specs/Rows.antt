@@ -7,7 +7,11 @@ use Rattle.fx_templates.specs.Ops.{pieces_of}
 use Rattle.fx_templates.specs.Beginnings.{pieces_of_enter}
 
 abbrev pub OpsAreRows : Type 0
-OpsAreRows = (a : Addresses) (function here label count : ℕ) (o : Op) → AreRows (pieces_of a function here label count o)
+OpsAreRows =
+    (a : Addresses) (function here label count : ℕ) (o : Op)
+    → AreRows (pieces_of a function here label count o)
 
 abbrev pub BeginningsAreRows : Type 0
-BeginningsAreRows = (a : Addresses) (compartment function here : ℕ) → AreRows (pieces_of_enter a compartment function here)
+BeginningsAreRows =
+    (a : Addresses) (compartment function here : ℕ)
+    → AreRows (pieces_of_enter a compartment function here)

@@ -7,7 +7,11 @@ use Rattle.fx_x64_forms.specs.declared.operand.Mem.{Mem}
 use Rattle.fx_x64_forms.specs.declared.inst.AluOp.{AluOp}
 use Rattle.fx_x64_forms.specs.declared.inst.AluOp.TheVariants.{Add, Sub, And, Or, Xor, Cmp, Test}
 use Rattle.fx_x64_forms.specs.declared.inst.Inst.{Inst}
-use Rattle.fx_x64_forms.specs.declared.inst.Inst.TheVariants.{Mov, Load, LoadZero, LoadSign, Zero, Sign, Store, MovImm, MovImm64, Lea, Alu, AluImm, Imul, Shift, Unary, Cqo, Setcc, Jcc, Jmp, Call, Ret, Push, Pop, Hlt, Nop, Wrpkru, Rdpkru}
+use Rattle.fx_x64_forms.specs.declared.inst.Inst.TheVariants.{Mov, Load, LoadZero, LoadSign, Zero}
+use Rattle.fx_x64_forms.specs.declared.inst.Inst.TheVariants.{Sign, Store, MovImm, MovImm64, Lea}
+use Rattle.fx_x64_forms.specs.declared.inst.Inst.TheVariants.{Alu, AluImm, Imul, Shift, Unary, Cqo}
+use Rattle.fx_x64_forms.specs.declared.inst.Inst.TheVariants.{Setcc, Jcc, Jmp, Call, Ret, Push, Pop}
+use Rattle.fx_x64_forms.specs.declared.inst.Inst.TheVariants.{Hlt, Nop, Wrpkru, Rdpkru}
 use Rattle.fx_x64_code.specs.Codes.{alu_at, shift_at, unary_at, condition_at}
 
 -- The one instruction whose spelling could begin the bytes. A byte past the end counts as 0, and needless bits and bytes are not looked at: what is guessed is spelled again and compared.
