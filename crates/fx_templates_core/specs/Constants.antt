@@ -42,7 +42,7 @@ next_parts dst n =
 
 -- a constant built from four parts; it takes R10
 abbrev pub built : Reg → ℕ → List Piece
-built dst n = first_part dst (n / 0x1000000000000) ++ next_parts dst n
+built dst n = first_part dst (n / 0x1000000000000 % 0x10000) ++ next_parts dst n
 
 abbrev pub constant : Reg → ℕ → List Piece
 constant dst n = if has_key n then built dst n else plain (inst.MovImm64 dst n) ∷ []

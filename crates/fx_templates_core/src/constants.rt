@@ -64,7 +64,7 @@ fn put_next_parts(out: &mut Vec<Piece>, dst: Reg, n: u64) -> Result<(), AllocErr
 fn put_built(out: &mut Vec<Piece>, dst: Reg, n: u64) -> Result<(), AllocError>
     ensures { OnOk result (out.new.items ≡ out.old.items ++ built dst n) }
 {
-    put_first_part(out, dst, (n / 0x1_0000_0000_0000) as u16)?;
+    put_first_part(out, dst, (n / 0x1_0000_0000_0000 % 0x1_0000) as u16)?;
     put_next_parts(out, dst, n)
 }
 
