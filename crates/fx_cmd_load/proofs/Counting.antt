@@ -1,9 +1,9 @@
 -- How many declarations files have.
-use Rattle.std.proofs.Common.{◌≡◌, ℕ, zero, suc, ◌+◌, ◌*◌, ◌<◌, ◌≤◌, List, [], ◌∷◌, ◌++◌, length, map, Option, Some, None, Result, Ok, Err, refl, sym, ap, subst, ◌∙◌, arith}
-use Rattle.std.proofs.lemmas.List.{length-map, length-append}
+use Rattle.std.proofs.Common.{◌≡◌, ℕ, zero, suc, ◌+◌, ◌*◌, ◌≤◌, List, [], ◌∷◌, ◌++◌, length, Option, Some, None, Ok, refl, ap, arith}
+use Rattle.std.proofs.lemmas.List.{length-append}
 use Rattle.fx_base.specs.Files.{Held}
 use Rattle.fx_c_ast.specs.declared.parsed.Decl.{Decl}
-use Rattle.fx_c_ast.specs.ParsedTrees.{DeclTree, decl_tree, decl_trees}
+use Rattle.fx_c_ast.specs.ParsedTrees.{DeclTree, decl_trees}
 use Rattle.fx_c_lex.specs.declared.token.Token.{Token}
 use Rattle.fx_c_lex.specs.Laws.{InOrder}
 use Rattle.fx_c_parse.specs.Words.{Word, words}
@@ -13,15 +13,13 @@ use Rattle.fx_c_parse.specs.Exact.{IsTextOf}
 use Rattle.fx_c_parse.proofs.CompleteUnits.{unit_complete}
 use Rattle.fx_c_types.specs.ProgramView.{placed_in, declarations}
 use Rattle.fx_config.specs.declared.configuration.Config.{Config}
-use Rattle.fx_config.specs.declared.configuration.Library.{Library}
-use Rattle.fx_config.specs.Reading.{files_of}
 use Rattle.fx_cmd_load.specs.declared.parsing.ParsedFile.{ParsedFile}
 use Rattle.fx_cmd_load.specs.Named.{Named, from_library}
 use Rattle.fx_cmd_load.specs.Reading.{AreRead}
 use Rattle.fx_cmd_load.specs.Parsing.{AreParsed}
-use Rattle.fx_cmd_load.specs.Loading.{IsLoaded, HasFewParts}
+use Rattle.fx_cmd_load.specs.Loading.{IsLoaded, SourcesGiven, HasFewParts}
 use Rattle.fx_cmd_load.proofs.Trees.{named_count}
-use Rattle.fx_cmd_load.specs.Programs.{source_of, sources_of}
+use Rattle.fx_cmd_load.specs.Programs.{sources_of}
 
 -- each declaration takes a word
 units_few : (n : ℕ) (done ds : List DeclTree) (ws : List Word) → units n done ws ≡ Ok ds → length ds + 1 ≤ length done + n
@@ -68,7 +66,18 @@ files_few held (n ∷ ns) (t ∷ ts) [] read parsed = absurd parsed
 files_few held (n ∷ ns) (t ∷ ts) (f ∷ fs) read parsed =
     omega (arith, length-append (placed_in f.library f.unit.decls) (declarations (sources_of fs)), length-placed f.library f.unit.decls, text_few t f.unit.decls parsed.1, read.1, files_few held ns ts fs read.2 parsed.2)
 
-pub few_declarations : (name : List ℕ) (held : Option Held) (k : Config) (files : List ParsedFile) → IsLoaded name held k files → HasFewParts k → length (declarations (sources_of files)) ≤ 67108864
-few_declarations name held k files loaded few =
-    let given = loaded.1 in
-    omega (arith, files_few held (from_library 0 k.libraries) given.0 files given.1 given.2, named_count 0 k.libraries, few.files)
+pub few_given : (held : Option Held) (k : Config) (files : List ParsedFile)
+    → SourcesGiven held (from_library 0 k.libraries) files → HasFewParts k
+    → length (declarations (sources_of files)) ≤ 67108864
+few_given held k files given few =
+    omega (
+      arith,
+      files_few held (from_library 0 k.libraries) given.0 files given.1 given.2,
+      named_count 0 k.libraries,
+      few.files,
+    )
+
+pub few_declarations : (name : List ℕ) (held : Option Held) (k : Config) (files : List ParsedFile)
+    → IsLoaded name held k files → HasFewParts k
+    → length (declarations (sources_of files)) ≤ 67108864
+few_declarations name held k files loaded few = few_given held k files loaded.1 few

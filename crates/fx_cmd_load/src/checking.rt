@@ -3,14 +3,18 @@
 ghost use Rattle.std.specs.Prelude.{◌≡◌, ◌<◌, ◌≤◌, ◌^◌, IfOk, IfErr, MatchResult, length};
 ghost use Rattle.fx_base.specs.Told.{Told};
 ghost use Rattle.fx_base.specs.Files.{SameFiles};
-ghost use Rattle.fx_c_types.specs.Programs.{well_typed};
-ghost use Rattle.fx_c_types.specs.ProgramView.{declarations, program_tree};
-ghost use Rattle.fx_cmd_load.specs.Loading.{IsLoaded, HasFewParts};
+ghost use Rattle.fx_c_types.specs.ProgramView.{declarations};
+ghost use Rattle.fx_cmd_load.specs.Named.{from_library};
+ghost use Rattle.fx_cmd_load.specs.Loading.{IsConfigured, HasFewParts, SourcesGiven};
 ghost use Rattle.fx_cmd_load.specs.Reading.{LeavesCount};
-ghost use Rattle.fx_cmd_load.specs.Programs.{sources_of, IsProgramOf, ProgramCause, ProgramLeaves, IsChecked, BreaksRule};
+ghost use Rattle.fx_cmd_load.specs.Programs.{sources_of, IsProgramOf, IsSourcesProgram, IsChecked};
+ghost use Rattle.fx_cmd_load.specs.Programs.{UnconfiguredCause, UnparsedCause, UncheckedCause};
+ghost use Rattle.fx_cmd_load.specs.Programs.{ProgramCause, ProgramLeaves, BreaksRule};
 
+use crate::ParsedFile;
+use crate::configured::read_configuration;
+use crate::loading::load_sources;
 use crate::program_error::{ProgramError, unloaded};
-use crate::{ParsedFile, Sources, load};
 use fx_base::Files;
 use fx_c_ast::checked::TProgram;
 use fx_c_types::{SourceFile, TypeError, check};
@@ -24,19 +28,48 @@ pub struct Program {
     pub program: TProgram,
 }
 
-fn loaded<F: Files>(alloc: Global, files: &mut F, name: &str) -> Result<Sources, ProgramError>
+/// The configuration under a name, of at most 16,777,216 bytes. That it isn't read comes before
+/// that it is refused. No file is changed.
+pub fn load_configuration<F: Files>(
+    alloc: Global,
+    files: &mut F,
+    name: &str,
+) -> Result<Config, ProgramError>
     ensures keeps { Told SameFiles (F.held files.old) (F.held files.new) }
     ensures later { F.faults files.old ≤ F.faults files.new }
     ensures counted { MatchResult result
         (λ _. LeavesCount (F.held files.old) (F.faults files.old) (F.faults files.new))
         (ProgramLeaves (F.held files.old) (F.faults files.old) (F.faults files.new)) }
-    ensures loaded { IfOk result (λ s. IsLoaded name.now (F.held files.old) s.config s.files) }
-    ensures few { IfOk result (λ s. HasFewParts s.config) }
-    ensures cause { IfErr result (ProgramCause name.now (F.held files.old) (F.faults files.old)
-        (F.faults files.new)) }
+    ensures configured { IfOk result (IsConfigured name.now (F.held files.old)) }
+    ensures few { IfOk result HasFewParts }
+    ensures cause { IfErr result (UnconfiguredCause name.now (F.held files.old)
+        (F.faults files.old) (F.faults files.new)) }
 {
-    match load(alloc, files, name) {
-        Ok(sources) => Ok(sources),
+    match read_configuration(alloc, files, name) {
+        Ok(config) => Ok(config),
+        Err(error) => Err(unloaded(error)),
+    }
+}
+
+// The parsed files of a configuration's libraries.
+fn parsed<F: Files>(
+    alloc: Global,
+    files: &mut F,
+    config: &Config,
+) -> Result<Vec<ParsedFile>, ProgramError>
+    requires { HasFewParts config.now }
+    ensures keeps { Told SameFiles (F.held files.old) (F.held files.new) }
+    ensures later { F.faults files.old ≤ F.faults files.new }
+    ensures counted { MatchResult result
+        (λ _. LeavesCount (F.held files.old) (F.faults files.old) (F.faults files.new))
+        (ProgramLeaves (F.held files.old) (F.faults files.old) (F.faults files.new)) }
+    ensures given { IfOk result (λ v. SourcesGiven (F.held files.old)
+        (from_library 0 config.now.libraries) v.items) }
+    ensures cause { IfErr result (UnparsedCause (F.held files.old) (F.faults files.old)
+        (F.faults files.new) (from_library 0 config.now.libraries)) }
+{
+    match load_sources(alloc, files, config) {
+        Ok(parsed) => Ok(parsed),
         Err(error) => Err(unloaded(error)),
     }
 }
@@ -69,9 +102,36 @@ fn checked(alloc: Global, files: Vec<ParsedFile>) -> Result<TProgram, ProgramErr
     }
 }
 
-/// Reads the configuration under a name and the source files that it names, parses each of them and checks
-/// the program. The first step that fails decides: what [`crate::load`] refuses, and then the first
-/// rule that the program violates. No file is changed.
+/// Reads the source files that a configuration names, each of at most 1,048,576 bytes and in the
+/// configuration's order, parses each of them and checks the program.
+///
+/// The first step that fails decides: a source file isn't read, a source file has no tree, the
+/// program violates a rule. No file is changed.
+pub fn check_sources<F: Files>(
+    alloc: Global,
+    files: &mut F,
+    config: &Config,
+) -> Result<TProgram, ProgramError>
+    requires { HasFewParts config.now }
+    ensures keeps { Told SameFiles (F.held files.old) (F.held files.new) }
+    ensures later { F.faults files.old ≤ F.faults files.new }
+    ensures counted { MatchResult result
+        (λ _. LeavesCount (F.held files.old) (F.faults files.old) (F.faults files.new))
+        (ProgramLeaves (F.held files.old) (F.faults files.old) (F.faults files.new)) }
+    // What is given is the program of the texts of the configuration's files.
+    ensures program { IfOk result (IsSourcesProgram (F.held files.old) config.now) }
+    // Each refusal has its cause, and what comes before it in the order of work has none.
+    ensures cause { IfErr result (UncheckedCause (F.held files.old) (F.faults files.old)
+        (F.faults files.new) (from_library 0 config.now.libraries)) }
+{
+    let trees = parsed(alloc, files, config)?;
+    let program = checked(alloc, trees)?;
+    Ok(program)
+}
+
+/// Reads the configuration under a name and the source files that it names, parses each of them and
+/// checks the program. The first step that fails decides: what [`load_configuration`] refuses, and
+/// then what [`check_sources`] does. No file is changed.
 pub fn load_program<F: Files>(
     alloc: Global,
     files: &mut F,
@@ -82,7 +142,8 @@ pub fn load_program<F: Files>(
     ensures counted { MatchResult result
         (λ _. LeavesCount (F.held files.old) (F.faults files.old) (F.faults files.new))
         (ProgramLeaves (F.held files.old) (F.faults files.old) (F.faults files.new)) }
-    // What is given is what the configuration's text means, and the program of the texts of its files.
+    // What is given is what the configuration's text means, and the program of the texts of its
+    // files.
     ensures program { IfOk result (λ x.
         IsProgramOf name.now (F.held files.old) x.config x.program) }
     ensures few { IfOk result (λ x. HasFewParts x.config) }
@@ -90,10 +151,7 @@ pub fn load_program<F: Files>(
     ensures cause { IfErr result (ProgramCause name.now (F.held files.old) (F.faults files.old)
         (F.faults files.new)) }
 {
-    let Sources {
-        config,
-        files: parsed,
-    } = loaded(alloc, files, name)?;
-    let program = checked(alloc, parsed.into_vec())?;
+    let config = load_configuration(alloc, files, name)?;
+    let program = check_sources(alloc, files, &config)?;
     Ok(Program { config, program })
 }

@@ -4,7 +4,8 @@ ghost use Rattle.std.specs.Prelude.{◌≡◌, ◌≤◌, IfOk, IfErr, MatchResu
 ghost use Rattle.fx_base.specs.Told.{Told};
 ghost use Rattle.fx_base.specs.Files.{SameFiles};
 ghost use Rattle.fx_cmd_load.specs.Reading.{LeavesCount, ErrorLeaves};
-ghost use Rattle.fx_cmd_load.specs.Loading.{IsConfigured, ConfigurationCause, MeansConfiguration, RefusesConfiguration, HasFewParts};
+ghost use Rattle.fx_cmd_load.specs.Loading.{IsConfigured, ConfigurationCause, HasFewParts};
+ghost use Rattle.fx_cmd_load.specs.Loading.{MeansConfiguration, RefusesConfiguration};
 
 use crate::error::LoadError;
 use crate::reading::read_file;
@@ -39,6 +40,7 @@ pub fn read_configuration<F: Files>(
         (λ _. LeavesCount (F.held files.old) (F.faults files.old) (F.faults files.new))
         (ErrorLeaves (F.held files.old) (F.faults files.old) (F.faults files.new)) }
     ensures configured { IfOk result (IsConfigured name.now (F.held files.old)) }
+    ensures few { IfOk result HasFewParts }
     ensures cause { IfErr result (ConfigurationCause name.now (F.held files.old)
         (F.faults files.old) (F.faults files.new)) }
 {

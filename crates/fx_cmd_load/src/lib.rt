@@ -1,5 +1,5 @@
-//! From the name of a configuration to a checked program: the files are read, parsed and checked in the
-//! order of work.
+//! From the name of a configuration to a checked program: the files are read, parsed and checked in
+//! the order of work.
 #![tactic(auto)]
 
 mod checking;
@@ -11,8 +11,7 @@ mod parsing;
 pub mod program_error;
 mod reading;
 
-pub use checking::{Program, load_program};
+pub use checking::{Program, check_sources, load_configuration, load_program};
 pub use error::LoadError;
-pub use loading::{Sources, load};
 pub use parsing::ParsedFile;
 pub use program_error::ProgramError;
