@@ -3,3 +3,4 @@ pub mod Ready
 pub mod Ways
 pub mod Granted
 pub mod Steps
+pub mod Rows

@@ -1,5 +1,5 @@
 -- A checked program can be granted and placed.
-use Rattle.std.proofs.Common.{◌≡◌, ℕ, ◌+◌, ◌<◌, ◌≤◌, ◌^◌, List, length, map, Option, arith}
+use Rattle.std.proofs.Common.{ℕ, ◌+◌, ◌<◌, List, length, Option, arith}
 use Rattle.std.proofs.lemmas.List.{length-map}
 use Rattle.fx_base.specs.Files.{Held}
 use Rattle.fx_config.specs.declared.configuration.Config.{Config}
@@ -10,7 +10,6 @@ use Rattle.fx_sections.specs.Placement.{IsPlaceable}
 use Rattle.fx_c_types.specs.declared.program.SourceFile.{SourceFile}
 use Rattle.fx_c_types.specs.ProgramView.{declarations}
 use Rattle.fx_c_types_law.proofs.Facts.{accepted_is, few, placeable}
-use Rattle.fx_cmd_load.specs.declared.parsing.ParsedFile.{ParsedFile}
 use Rattle.fx_cmd_load.specs.Loading.{HasFewParts}
 use Rattle.fx_cmd_load.specs.Programs.{sources_of, IsProgramOf}
 use Rattle.fx_cmd_load.proofs.Counting.{few_declarations}

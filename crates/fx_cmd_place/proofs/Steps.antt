@@ -1,5 +1,5 @@
 -- The lines behind a place of a list, one step on.
-use Rattle.std.proofs.Common.{◌≡◌, ℕ, ◌+◌, ◌<◌, List, [], ◌∷◌, ◌++◌, length, drop, get_or, slice_get, nat_eq, sym, ap, ◌∙◌, append_assoc}
+use Rattle.std.proofs.Common.{◌≡◌, ℕ, ◌+◌, ◌<◌, List, ◌∷◌, ◌++◌, length, drop, get_or, slice_get, nat_eq, sym, ap, ◌∙◌, append_assoc}
 use Rattle.std.proofs.lemmas.List.{drop_more}
 use Rattle.fx_config.specs.declared.configuration.Compartment.{Compartment}
 use Rattle.fx_c_ast.specs.declared.checked.TGlobal.{TGlobal}

@@ -1,5 +1,5 @@
 -- What the command comes to, from its steps, and what its status says.
-use Rattle.std.proofs.Common.{◌≡◌, ℕ, ◌<◌, List, [], ◌∷◌, ◌++◌, ◌⊎◌, inl, inr, Option, Some, None, Result, Ok, Err, refl, sym, ◌∙◌, arith}
+use Rattle.std.proofs.Common.{◌≡◌, ℕ, ◌<◌, List, inl, inr, Option, Some, None, Result, Ok, Err, refl, arith}
 use Rattle.fx_base.specs.Told.{Told}
 use Rattle.fx_base.specs.Files.{Held}
 use Rattle.fx_config.specs.declared.configuration.Config.{Config}

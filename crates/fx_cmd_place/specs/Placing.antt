@@ -11,6 +11,7 @@ use Rattle.fx_grants.specs.declared.grants.Grants.{Grants}
 use Rattle.fx_grants.specs.Refusals.{resolved}
 use Rattle.fx_sections.specs.declared.placement.Placement.{Placement}
 use Rattle.fx_sections.specs.Placement.{literal_sizes, initial_total, placed}
+use Rattle.fx_sections_law.specs.PlacementLaw.{PlacementLaw}
 use Rattle.fx_cmd_base.specs.Streams.{Gained, TookNothing}
 use Rattle.fx_cmd_place.specs.Table.{table_of}
 use Rattle.fx_cmd_place.specs.declared.placing.Unplaced.{Unplaced}
@@ -31,9 +32,12 @@ pub record IsReady (p : TProgram) (k : Config) : Type 0 where
 abbrev pub GainedFront : List ℕ → List ℕ → List ℕ → Type 0
 GainedFront bytes before now = (n : ℕ) × (now ≡ before ++ take n bytes)
 
--- the program is granted and placed, and this is the placement's table
+-- The program is granted and placed, the placement keeps its law, and this is its table: exactly
+-- one line for each object that has an address for good, addresses ascending.
 abbrev pub HasTable : TProgram → Config → List ℕ → Type 0
-HasTable p k table = (g : Grants) × (at : Placement) × (resolved p k ≡ Ok g) × (placed p g k ≡ Ok at) × (table ≡ table_of p g k at)
+HasTable p k table =
+    (g : Grants) × (at : Placement) × (resolved p k ≡ Ok g) × (placed p g k ≡ Ok at)
+    × PlacementLaw p g k at × (table ≡ table_of p g k at)
 
 -- the output gained the table of the placement
 abbrev pub WasPut : TProgram → Config → Option (List ℕ) → Option (List ℕ) → Type 0

@@ -1,6 +1,7 @@
--- The table of a placement: a line for each object of the image, in order of address. The lines' form
--- is this project's own.
-use Rattle.std.specs.Prelude.{ℕ, ◌+◌, ◌*◌, ◌==◌, Bool, List, [], ◌∷◌, ◌++◌, codes, slice_get, length, map, Option, Some, None, if◌then◌else◌}
+-- The table of a placement: a line for each object of the image, in order of address. The lines'
+-- form is this project's own.
+use Rattle.std.specs.Prelude.{ℕ, ◌+◌, ◌*◌, ◌==◌, Bool, List, [], ◌∷◌, ◌++◌, codes, flat_map}
+use Rattle.std.specs.Prelude.{slice_get, map, Option, Some, None, if◌then◌else◌}
 use Rattle.std.specs.Fmt.{decimal}
 use Rattle.fx_cmd_base.specs.Hex.{hex}
 use Rattle.fx_config.specs.declared.configuration.Config.{Config}
@@ -13,6 +14,7 @@ use Rattle.fx_sections.specs.declared.placement.PlacedSection.{PlacedSection}
 use Rattle.fx_sections.specs.declared.placement.Placement.{Placement}
 use Rattle.fx_sections.specs.Pairs.{section_of}
 use Rattle.fx_sections.specs.Placement.{global_size, program_pairs}
+use Rattle.fx_sections_law.specs.Table.{Row, table_rows}
 
 -- the address in 16 hexadecimal digits, the key, the size and the name, parted by spaces
 abbrev pub numbers_text : (key size : ℕ) → List ℕ
@@ -45,5 +47,16 @@ section_lines ss comps gs sections addresses number (s ∷ rest) =
     (runtime_line s (slice_get comps number) ++ global_lines ss number s.key gs sections addresses)
     ++ section_lines ss comps gs sections addresses (number + 1) rest
 
+-- the lines, section after section
+abbrev pub lines_of : TProgram → Grants → Config → Placement → List ℕ
+lines_of p g k at = section_lines (struct_types p.structs) k.compartments p.globals
+    (map (section_of (program_pairs g k)) g.globals) at.globals 0 at.sections
+
+-- the line of an object
+abbrev pub row_line : Row → List ℕ
+row_line r = line r.address r.key r.size r.name
+
+-- The table: the lines of all objects that have an address for good, of which there is one each, in
+-- order of address (`HasOneRowEach`).
 abbrev pub table_of : TProgram → Grants → Config → Placement → List ℕ
-table_of p g k at = section_lines (struct_types p.structs) k.compartments p.globals (map (section_of (program_pairs g k)) g.globals) at.globals 0 at.sections
+table_of p g k at = flat_map row_line (table_rows p g k at)

@@ -1,6 +1,4 @@
-use Rattle.std.proofs.lemmas.Result.{err_from_is_err_and}
 use Rattle.fx_cmd_place.proofs.Ready.{ready}
-use Rattle.fx_cmd_place.proofs.Ways.{unloaded_came, unput_came}
 use Rattle.fx_cmd_place.proofs.command.perform.Goals as goal
 
 pub put-requires : goal.put-requires

@@ -1,6 +1,6 @@
 use Rattle.std.proofs.Common.{◌≡◌, ◌++◌, drop}
 use Rattle.fx_c_ast.specs.CheckedTrees.{struct_types}
-use Rattle.fx_cmd_place.specs.Table.{section_lines, table_of}
+use Rattle.fx_cmd_place.specs.Table.{section_lines}
 use Rattle.fx_cmd_place.proofs.table.place_table.Given as goal
 
 abbrev pub invariant-loop-number : goal.invariant-loop-number
