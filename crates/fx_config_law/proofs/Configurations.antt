@@ -1,5 +1,6 @@
 -- What is read of a whole document.
-use Rattle.std.proofs.Common.{◌≡◌, ◌<◌, ◌≤◌, ℕ, Bool, true, ◌&&◌, nat_eq, List, [], ◌∷◌, length, map, Option, Some, None, Ok, arith}
+use Rattle.std.proofs.Common.{◌≡◌, ◌<◌, ◌≤◌, ℕ, Bool, true, ◌&&◌, nat_eq, List, [], ◌∷◌, length}
+use Rattle.std.proofs.Common.{map, Option, Some, None, Ok, arith}
 use Rattle.std.specs.Prelude.{nat_le, bytes_eq, ok_or}
 use Rattle.std.proofs.lemmas.Bool.{and_parts}
 use Rattle.std.proofs.lemmas.Option.{same_Some}
@@ -11,9 +12,12 @@ use Rattle.fx_config.specs.declared.configuration.Compartment.{Compartment}
 use Rattle.fx_config.specs.declared.configuration.ConfigError.TheVariants.{OutOfRange, TwoPlaces}
 use Rattle.fx_config.specs.Answers.{Reading, ◌>>=◌, demand, read_each}
 use Rattle.fx_config.specs.Names.{all_differ}
-use Rattle.fx_config.specs.Reading.{library_of, compartment_of, Top, top_of, scheduler_of, files_of, libraries_of, devices_of, stands_once, config_of, document_of, configuration_of}
+use Rattle.fx_config.specs.Reading.{library_of, compartment_of, Top, top_of, scheduler_of, files_of}
+use Rattle.fx_config.specs.Reading.{libraries_of, devices_of, stands_once, config_of, document_of}
+use Rattle.fx_config.specs.Reading.{configuration_of}
 use Rattle.fx_config_law.specs.Laws.{HasBounds}
-use Rattle.fx_config_law.proofs.Ends.{Ends, bind_ends, then_ends, demand_ends, found_ends, each_ends, Passes, ended}
+use Rattle.fx_config_law.proofs.Ends.{Ends, bind_ends, then_ends, demand_ends, found_ends}
+use Rattle.fx_config_law.proofs.Ends.{each_ends, Passes, ended}
 use Rattle.fx_config_law.proofs.Tables.{is_named, compartment_named, IsTop, top_within}
 
 abbrev names_of : List Compartment → List (List ℕ)

@@ -1,5 +1,6 @@
 -- What is read of the tables of a document.
-use Rattle.std.proofs.Common.{◌≡◌, ◌≤◌, ℕ, ℤ, pos, negsuc, Bool, true, ◌&&◌, List, [], ◌∷◌, length, Option, Some, None, Ok, arith}
+use Rattle.std.proofs.Common.{◌≡◌, ◌≤◌, ℕ, ℤ, pos, negsuc, Bool, true, ◌&&◌, List, [], ◌∷◌, length}
+use Rattle.std.proofs.Common.{Option, Some, None, Ok, arith}
 use Rattle.std.specs.Prelude.{codes, ok_or, nat_le}
 use Rattle.std.specs.List.{list_all}
 use Rattle.std.specs.Int.{is_in_range}
@@ -10,9 +11,11 @@ use Rattle.fx_config.specs.declared.configuration.Compartment.{Compartment}
 use Rattle.fx_config.specs.declared.configuration.Mechanism.{Mechanism}
 use Rattle.fx_config.specs.declared.configuration.ConfigError.TheVariants.{UnknownField, OutOfRange}
 use Rattle.fx_config.specs.Answers.{Reading, ◌>>=◌, demand, read_each}
-use Rattle.fx_config.specs.Document.{required, if_there, each_if_there, string_of, integer_of, strings_of, integers_of, tables_of}
+use Rattle.fx_config.specs.Document.{required, if_there, each_if_there, string_of, integer_of}
+use Rattle.fx_config.specs.Document.{strings_of, integers_of, tables_of}
 use Rattle.fx_config.specs.Names.{is_c_name, number_in}
-use Rattle.fx_config.specs.Reading.{has_only, passes_if_there, device_of, compartment_of, Top, mechanism_of, compartment_limit, stack_pages_of, top_of}
+use Rattle.fx_config.specs.Reading.{has_only, passes_if_there, device_of, compartment_of, Top}
+use Rattle.fx_config.specs.Reading.{mechanism_of, compartment_limit, stack_pages_of, top_of}
 use Rattle.fx_config_law.proofs.Ends.{Ends, bind_ends, then_ends, demand_ends, found_ends}
 
 -- ---- a compartment
