@@ -5,3 +5,4 @@ pub mod Functions
 pub mod Frames
 pub mod Inside
 pub mod Whole
+pub mod Short

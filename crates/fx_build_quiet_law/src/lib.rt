@@ -4,6 +4,7 @@
 #![tactic(auto)]
 
 ghost use Rattle.fx_build_quiet_law.specs.Quiet.{CodeHasRegisters, PartsHaveNoKeys};
+ghost use Rattle.fx_build_quiet_law.specs.Quiet.{LinkedAreShort};
 
 use fx_templates_quiet_law::{
     beginnings_are_quiet, gates_are_quiet, ops_are_quiet, runtimes_are_quiet,
@@ -25,3 +26,8 @@ pub fn parts_have_no_keys()
     gates_are_quiet();
     runtimes_are_quiet();
 }
+
+/// Parts of which an image is linked have no more bytes of code than an image may have.
+pub fn linked_are_short()
+    ensures { LinkedAreShort }
+{}

@@ -53,7 +53,7 @@ GatesAreQuiet =
     (a : Addresses) (function count : ℕ) (site : GateSite) → ArePlain a → count ≤ 1048576
     → AreQuiet (pieces_of_gate a function count site)
 
--- with sections below page 1,048,576, which is the machine's 4 GiB
+-- with sections that begin at page 1,048,576 at most
 abbrev pub RuntimesAreQuiet : Type 0
 RuntimesAreQuiet =
     (p : TProgram) (at : Placement) (k : Config) (here : ℕ) → k.stack_pages ≤ 64
