@@ -120,6 +120,76 @@ fn runs_of_exec_take_options(rt: HostRuntime) -> Result<(), Fail> {
     Ok(())
 }
 
+/// The configuration of two libraries in a compartment each, separated by nothing.
+const TWO_UNDER_CALL: &[u8] = b"mechanism = 'call'
+library = [{ name = 'a', files = ['a.c'] }, { name = 'b', files = ['b.c'] }]
+compartment = [{ name = 'a', libraries = ['a'] }, { name = 'b', libraries = ['b'] }]
+";
+
+#[test]
+fn any_program_is_built_and_run(rt: HostRuntime) -> Result<(), Fail> {
+    let alloc = rt.alloc();
+    let cases: [(&str, &str, u8, &str); 7] = [
+        (
+            "__entry long pong(long x) { return x + 1; } long main() { return __gate(ping, 40); }",
+            "__entry long ping(long x) { return __gate(pong, x) + 1; }",
+            0,
+            "exit 42 in 62 turns\n",
+        ),
+        (
+            "long secret = 7; long main() { return __gate(peek, &secret); }",
+            "__entry long peek(long *p) { return *p; }",
+            0,
+            "exit 7 in 41 turns\n",
+        ),
+        (
+            "long main() { return 0xEF010FEF010F; }",
+            "",
+            0,
+            "exit 262787841327375 in 27 turns\n",
+        ),
+        (
+            "long main() { int a = 1; int b = -1; a = a << 31; return a / b; }",
+            "",
+            9,
+            "divide\n",
+        ),
+        (
+            "long main() { __switch(5); return 0; }",
+            "",
+            9,
+            "bad thread\n",
+        ),
+        (
+            "long r(long n) { return r(n + 1); } long main() { return r(0); }",
+            "",
+            7,
+            "stack full: thread 0 stack common\n",
+        ),
+        (
+            "long main() { return __getc(); }",
+            "",
+            0,
+            "exit -1 in 21 turns\n",
+        ),
+    ];
+    for (a, b, status, line) in cases {
+        let files = [
+            ("conf.toml", TWO_UNDER_CALL),
+            ("a.c", a.as_bytes()),
+            ("b.c", b.as_bytes()),
+        ];
+        let left = command(alloc, EXEC, &files, 0, 2000)?;
+        assert_eq!(rt; left.status, status, "{a}");
+        assert!(rt; left.out.bytes().is_empty(), "{a}");
+        assert_eq!(rt; left.err.bytes(), line.as_bytes(), "{a}");
+        let left = over(alloc, "run out.img", left.files, 2000)?;
+        assert_eq!(rt; left.status, status, "{a}");
+        assert_eq!(rt; left.err.bytes(), line.as_bytes(), "{a}");
+    }
+    Ok(())
+}
+
 #[test]
 fn images_are_run_again(rt: HostRuntime) -> Result<(), Fail> {
     let alloc = rt.alloc();
@@ -238,6 +308,8 @@ fn other_words_are_usage(rt: HostRuntime) -> Result<(), Fail> {
     let cases = [
         "",
         "build a.toml",
+        "build a.toml -x",
+        "build a.toml out.img more",
         "run x --steps 01",
         "exec conf.toml",
         "exec -x out.img",
@@ -276,18 +348,24 @@ fn other_words_are_usage(rt: HostRuntime) -> Result<(), Fail> {
 fn refusals_and_faults_have_their_lines(rt: HostRuntime) -> Result<(), Fail> {
     let alloc = rt.alloc();
     let conf = ("conf.toml", EARLY_DOCUMENT.as_bytes());
-    let full = ("conf.toml", b"mechanism = \"full\"\n".as_slice());
+    let full = ("conf.toml", TWO_COMPARTMENTS);
+    let short = ("conf.toml", b"mechanism = \"call\"\n".as_slice());
     let good = ("a.c", b"void main(){__putc(72);}".as_slice());
-    let bad = ("a.c", b"void main(){__putc(256);}".as_slice());
-    let cases: [(&[(&str, &[u8])], u64, u64, u8, &str); 9] = [
+    let other = ("a.c", b"void main(){__putc(256);}".as_slice());
+    let bad = ("a.c", b"void main(){x=1;}".as_slice());
+    let none = ("b.c", b"".as_slice());
+    let cases: [(&[(&str, &[u8])], u64, u64, u8, &str); 12] = [
         (&[conf, good], 1, 9, 4, "file fault: conf.toml\n"),
         (&[conf, good], 2, 9, 4, "file fault: a.c\n"),
         (&[conf, good], 3, 9, 4, "file fault: out.img\n"),
         (&[good], 0, 9, 4, "no file: conf.toml\n"),
         (&[conf], 0, 9, 4, "no file: a.c\n"),
-        (&[full, good], 0, 9, 3, "refused: early Config\n"),
-        (&[full], 2, 9, 3, "refused: early Config\n"),
-        (&[conf, bad], 3, 9, 3, "refused: early Source 0\n"),
+        (&[full, good, none], 0, 9, 3, "refused: early Config\n"),
+        (&[short, good], 0, 9, 3, "refused: config Missing\n"),
+        (&[conf, bad], 0, 9, 3, "refused: types UnknownName 0\n"),
+        (&[conf, other], 3, 9, 4, "file fault: conf.toml\n"),
+        (&[conf, other], 5, 9, 4, "file fault: out.img\n"),
+        (&[conf, other], 0, 0, 5, "write fault\n"),
         (&[conf, good], 0, 0, 5, "write fault\n"),
     ];
     for (files, failing, capacity, status, line) in cases {
@@ -317,7 +395,7 @@ fn sources_have_their_limits(rt: HostRuntime) -> Result<(), Fail> {
     let alloc = rt.alloc();
     let cases = [
         (1000, 0, 0, "exit 0 in 2007 turns\n"),
-        (1001, 0, 3, "refused: early Source 0\n"),
+        (1001, 0, 0, "exit 0 in 4023 turns\n"),
         (1, 1_048_576, 0, "exit 0 in 9 turns\n"),
         (1, 1_048_577, 4, "file too long: a.c\n"),
     ];

@@ -1,5 +1,5 @@
 -- What the command came to, from its stages.
-use Rattle.std.proofs.Common.{◌≡◌, ℕ, pos, ◌≤◌, ◌<◌, List, [], ◌∷◌, ◌++◌, Option, Result, Ok, Err, inl, inr, refl, ap, sym, ◌∙◌, subst, append_assoc}
+use Rattle.std.proofs.Common.{◌≡◌, ℕ, ◌≤◌, ◌<◌, List, [], ◌∷◌, ◌++◌, Option, Result, Ok, Err, refl, ap, sym, ◌∙◌, subst, append_assoc}
 use Rattle.std.proofs.lemmas.List.Elements.{All-from_recursion}
 use Rattle.fx_base.specs.declared.device_op.DeviceOp.{DeviceOp}
 use Rattle.fx_base.specs.Told.{Told}
@@ -23,7 +23,8 @@ use Rattle.fx_cmd_run.specs.declared.load.Unbegun.{Unbegun}
 use Rattle.fx_cmd_run.proofs.Late.{image_before}
 use Rattle.fx_cmd_exec.specs.Builds.{Builds, Writes}
 use Rattle.fx_cmd_exec.specs.Runs.{GainedFront, PutsOut, ConstantsCome}
-use Rattle.fx_cmd_exec.specs.Does.{once_written, Executes}
+use Rattle.fx_cmd_exec.specs.Moments.{once_written}
+use Rattle.fx_cmd_exec.specs.Does.{Executes}
 use Rattle.fx_cmd_exec.proofs.Holding.{writes_after, same_back}
 
 -- what was built is the image of its constants

@@ -1,5 +1,5 @@
 -- What the command's status says.
-use Rattle.std.proofs.Common.{◌≡◌, ℕ, pos, ◌<◌, List, Option, Result, Ok, Err, inl, inr, refl, sym, ◌∙◌, subst, arith}
+use Rattle.std.proofs.Common.{◌≡◌, ℕ, pos, List, Option, Result, Ok, Err, inl, inr, refl, sym, ◌∙◌, subst, arith}
 use Rattle.fx_base.specs.Told.{Told}
 use Rattle.fx_device.specs.Rules.{Meaning}
 use Rattle.fx_image.specs.declared.forms.Image.{Image}
@@ -10,58 +10,46 @@ use Rattle.fx_cmd_run.specs.declared.verdict.Verdict.TheVariants.{Exited, Denied
 use Rattle.fx_cmd_base.specs.Words.{ExecGiven}
 use Rattle.fx_cmd_base.specs.Streams.{Streams, Gained}
 use Rattle.fx_cmd_base.specs.Ends.{ErrorStream}
-use Rattle.fx_cmd_run.specs.Lines.{unbegun_status}
 use Rattle.fx_cmd_run.specs.Reports.{Reports}
 use Rattle.fx_cmd_run.specs.declared.command.Finished.{Finished}
 use Rattle.fx_cmd_run.specs.declared.load.Unbegun.{Unbegun}
-use Rattle.fx_cmd_run.specs.declared.load.Unbegun.TheVariants as unbegun
 use Rattle.fx_cmd_run.proofs.Statuses.{reports_usage}
 use Rattle.fx_cmd_exec.specs.declared.unbuilt.Unbuilt.{Unbuilt}
 use Rattle.fx_cmd_exec.specs.declared.unbuilt.Unbuilt.TheVariants as unbuilt
-use Rattle.fx_cmd_exec.specs.Lines.{unbuilt_status}
 use Rattle.fx_cmd_exec.specs.Builds.{Builds, Writes}
 use Rattle.fx_cmd_exec.specs.Runs.{RunsConstants, ConstantsCome}
 use Rattle.fx_cmd_exec.specs.Reports.{ReportsUnbuilt}
-use Rattle.fx_cmd_exec.specs.Does.{once_written, Executes, BuildsNone, DoesExec, DoneExec}
-
--- a status that is another number
-apart : {P : Type 0} (status result wanted : ℕ) → result ≡ status → result ≡ wanted → wanted < status → P
-apart status result wanted is that less = absurd (omega arith)
+use Rattle.fx_cmd_exec.specs.Moments.{once_written}
+use Rattle.fx_cmd_exec.specs.Does.{DoesExec, DoneConstant, DoneExec}
+use Rattle.fx_cmd_exec.proofs.Statuses.{apart, unbegun_some}
+use Rattle.fx_cmd_exec.proofs.AnyEnding.{any_usage, any_done}
 
 -- ---- usage
 
-unbuilt_usage : (why : Unbuilt) → unbuilt_status why ≡ 2 → ⊥
-unbuilt_usage (unbuilt.Refused early) status = omega arith
-unbuilt_usage (unbuilt.FileFault which error) status = omega arith
-unbuilt_usage unbuilt.OutOfMemory status = omega arith
-
 none_usage : (given : ExecGiven) (why : Unbuilt) (result : ℕ) (err : ErrorStream) → ReportsUnbuilt given why result err → result ≡ 2 → ⊥
-none_usage given why result err (inl (inl own)) two = unbuilt_usage why (sym own.0 ∙ two)
-none_usage given why result err (inl (inr fault)) two = omega (arith, fault.0)
-none_usage given why result err (inr (inl memory)) two = omega (arith, memory.0)
-none_usage given why result err (inr (inr fault)) two = omega (arith, fault.0)
+none_usage given (unbuilt.Other form) result err said two = absurd said
+none_usage given (unbuilt.FileFault which error) result err (inl (inl own)) two = omega (arith, own.0)
+none_usage given (unbuilt.FileFault which error) result err (inl (inr fault)) two = omega (arith, fault.0)
+none_usage given (unbuilt.FileFault which error) result err (inr (inl memory)) two = omega (arith, memory.0)
+none_usage given (unbuilt.FileFault which error) result err (inr (inr fault)) two = omega (arith, fault.0)
+none_usage given unbuilt.OutOfMemory result err (inl own) two = omega (arith, own.0)
+none_usage given unbuilt.OutOfMemory result err (inr fault) two = omega (arith, fault.0)
 
 pub not_usage : (given : ExecGiven) (boxes : List (Option Meaning)) (before after : Streams) (result : ℕ) (err : ErrorStream) → DoesExec given boxes before after result err → result ≡ 2 → ⊥
-not_usage given boxes before after result err (inl e) two = reports_usage given.run e.came result err e.reports two
-not_usage given boxes before after result err (inr n) two = none_usage given n.why result err n.reports two
+not_usage given boxes before after result err (inl (inl e)) two = reports_usage given.run e.came result err e.reports two
+not_usage given boxes before after result err (inl (inr n)) two = none_usage given n.why result err n.reports two
+not_usage given boxes before after result err (inr any) two = any_usage given boxes before after any.held any.faults result err any.does two
 
 -- ---- status 0
 
-unbuilt_some : {P : Type 0} (why : Unbuilt) → unbuilt_status why ≡ 0 → P
-unbuilt_some (unbuilt.Refused early) status = apart 3 3 0 refl status (omega arith)
-unbuilt_some (unbuilt.FileFault which error) status = apart 4 4 0 refl status (omega arith)
-unbuilt_some unbuilt.OutOfMemory status = apart 6 6 0 refl status (omega arith)
-
 none_done : {P : Type 0} (given : ExecGiven) (why : Unbuilt) (result : ℕ) (err : ErrorStream) → ReportsUnbuilt given why result err → result ≡ 0 → P
-none_done given why result err (inl (inl own)) none = unbuilt_some why (sym own.0 ∙ none)
-none_done given why result err (inl (inr fault)) none = apart 5 result 0 fault.0 none (omega arith)
-none_done given why result err (inr (inl memory)) none = apart 6 result 0 memory.0 none (omega arith)
-none_done given why result err (inr (inr fault)) none = apart 5 result 0 fault.0 none (omega arith)
-
-unbegun_some : {P : Type 0} (why : Unbegun) → unbegun_status why ≡ 0 → P
-unbegun_some (unbegun.Unread file error) status = apart 4 4 0 refl status (omega arith)
-unbegun_some (unbegun.Refused error) status = apart 3 3 0 refl status (omega arith)
-unbegun_some unbegun.OutOfMemory status = apart 6 6 0 refl status (omega arith)
+none_done given (unbuilt.Other form) result err said none = absurd said
+none_done given (unbuilt.FileFault which error) result err (inl (inl own)) none = apart 4 result 0 own.0 none (omega arith)
+none_done given (unbuilt.FileFault which error) result err (inl (inr fault)) none = apart 5 result 0 fault.0 none (omega arith)
+none_done given (unbuilt.FileFault which error) result err (inr (inl memory)) none = apart 6 result 0 memory.0 none (omega arith)
+none_done given (unbuilt.FileFault which error) result err (inr (inr fault)) none = apart 5 result 0 fault.0 none (omega arith)
+none_done given unbuilt.OutOfMemory result err (inl own) none = apart 6 result 0 own.0 none (omega arith)
+none_done given unbuilt.OutOfMemory result err (inr fault) none = apart 5 result 0 fault.0 none (omega arith)
 
 module _ (given : ExecGiven) (boxes : List (Option Meaning)) (before after : Streams) (err : ErrorStream) (constants : List ℕ) (image : Image) (b : Builds given.config before.held constants image) (w : Writes given.run.image image before.held after.held) where
   abbrev Ran : Verdict → Type 0
@@ -71,7 +59,7 @@ module _ (given : ExecGiven) (boxes : List (Option Meaning)) (before after : Str
   Line verdict = Told (Gained (line_of image verdict)) err.told err.printed
 
   abbrev Whole : Type 0
-  Whole = DoneExec given boxes before after err
+  Whole = DoneConstant given boxes before after err
 
   exited : (turns : ℕ) → Ran (Exited (pos 0) turns) × Line (Exited (pos 0) turns) → Whole
   exited turns (ran, line) = record {
@@ -113,5 +101,6 @@ module _ (given : ExecGiven) (boxes : List (Option Meaning)) (before after : Str
 
 pub done : (given : ExecGiven) (boxes : List (Option Meaning)) (before after : Streams) (result : ℕ) (err : ErrorStream) → DoesExec given boxes before after result err → result ≡ 0
     → DoneExec given boxes before after err
-done given boxes before after result err (inl e) none = by_came given boxes before after err e.constants e.image e.builds e.writes e.came result e.comes e.reports none
-done given boxes before after result err (inr n) none = none_done given n.why result err n.reports none
+done given boxes before after result err (inl (inl e)) none = inl (by_came given boxes before after err e.constants e.image e.builds e.writes e.came result e.comes e.reports none)
+done given boxes before after result err (inl (inr n)) none = none_done given n.why result err n.reports none
+done given boxes before after result err (inr any) none = inr (any_done given boxes before after result err any none)

@@ -12,7 +12,7 @@ use Rattle.fx_cmd_load.specs.Reading.{source_limit, HasContent, LeavesCount}
 use Rattle.fx_cmd_load.proofs.Stages.{was_before, counted_twice, fault_leaves}
 use Rattle.fx_cmd_exec.specs.declared.unbuilt.Unbuilt.{Unbuilt}
 use Rattle.fx_cmd_exec.specs.Lines.{source_name}
-use Rattle.fx_cmd_exec.specs.declared.unbuilt.Unbuilt.TheVariants.{Refused, FileFault, OutOfMemory}
+use Rattle.fx_cmd_exec.specs.declared.unbuilt.Unbuilt.TheVariants.{Other, FileFault, OutOfMemory}
 use Rattle.fx_cmd_exec.specs.declared.unbuilt.Which.TheVariants as which
 use Rattle.fx_cmd_exec.specs.Causes.{HasProgram, ImageCause, UnbuiltLeaves, early_document}
 use Rattle.fx_cmd_exec.specs.Builds.{Builds, Writes}
@@ -56,7 +56,7 @@ same_back (Some x) (Some y) same = λ name. sym (same name)
 
 -- a stage behind one that left the count
 pub unbuilt_leaves : (a b : Option Held) (first before now : ℕ) (why : Unbuilt) → Told SameFiles a b → LeavesCount a first before → UnbuiltLeaves b before now why → UnbuiltLeaves a first now why
-unbuilt_leaves a b first before now (Refused early) same p q = counted_twice a b first before now same p q
+unbuilt_leaves a b first before now (Other form) same p q = counted_twice a b first before now same p q
 unbuilt_leaves a b first before now (FileFault which.Config error) same p q = fault_leaves error a b first before now same p q
 unbuilt_leaves a b first before now (FileFault which.Source error) same p q = fault_leaves error a b first before now same p q
 unbuilt_leaves a b first before now (FileFault which.Image error) same p q = tt
@@ -64,7 +64,7 @@ unbuilt_leaves a b first before now OutOfMemory same p q = tt
 
 -- the writing of the image is free of it
 pub image_leaves : (held : Option Held) (first before now : ℕ) (why : Unbuilt) → ImageCause before now why → UnbuiltLeaves held first now why
-image_leaves held first before now (Refused early) cause = absurd cause
+image_leaves held first before now (Other form) cause = absurd cause
 image_leaves held first before now (FileFault which.Config error) cause = absurd cause
 image_leaves held first before now (FileFault which.Source error) cause = absurd cause
 image_leaves held first before now (FileFault which.Image error) cause = tt

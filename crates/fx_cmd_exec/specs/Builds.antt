@@ -10,8 +10,8 @@ use Rattle.fx_image.specs.declared.forms.Image.{Image}
 use Rattle.fx_cmd_base.specs.Words.{ExecGiven}
 use Rattle.fx_cmd_load.specs.Reading.{HasContent}
 use Rattle.fx_cmd_exec.specs.declared.unbuilt.Unbuilt.{Unbuilt}
-use Rattle.fx_cmd_exec.specs.declared.unbuilt.Unbuilt.TheVariants.{Refused, FileFault, OutOfMemory}
-use Rattle.fx_cmd_exec.specs.declared.unbuilt.Early.TheVariants as early
+use Rattle.fx_cmd_exec.specs.declared.unbuilt.Unbuilt.TheVariants.{Other, FileFault, OutOfMemory}
+use Rattle.fx_cmd_exec.specs.declared.unbuilt.Other.TheVariants as other
 use Rattle.fx_cmd_exec.specs.declared.unbuilt.Which.TheVariants as which
 use Rattle.fx_cmd_exec.specs.Causes.{HasProgram, WritingFault, ConfigCause, SourceCause, early_document}
 
@@ -29,12 +29,12 @@ pub record Writes (name : List ℕ) (image : Image) (held after : Option Held) :
   pub written : Told (λ old new. new name ≡ Some (image_spelling image)) held after
   pub others : Told (SameElsewhere name) held after
 
--- Why no image was written, by what was held and the count of faults before and after. No file was changed
+-- Why no image of constant output was written, by what was held and the count of faults before and after. No file was changed
 -- but by a writing that failed.
 abbrev pub WhyUnbuilt : ExecGiven → Option Held → Option Held → ℕ → ℕ → Unbuilt → Type 0
-WhyUnbuilt given held after before now (Refused early.Config) = ConfigCause given.config held before now (Refused early.Config) × Told SameFiles held after
-WhyUnbuilt given held after before now (Refused (early.Source number)) =
-    HasContent held given.config early_document × SourceCause held before now (Refused (early.Source number)) × Told SameFiles held after
+WhyUnbuilt given held after before now (Other other.Config) = ConfigCause given.config held before now (Other other.Config) × Told SameFiles held after
+WhyUnbuilt given held after before now (Other other.Source) =
+    HasContent held given.config early_document × SourceCause held before now (Other other.Source) × Told SameFiles held after
 WhyUnbuilt given held after before now (FileFault which.Config error) = ConfigCause given.config held before now (FileFault which.Config error) × Told SameFiles held after
 WhyUnbuilt given held after before now (FileFault which.Source error) =
     HasContent held given.config early_document × SourceCause held before now (FileFault which.Source error) × Told SameFiles held after

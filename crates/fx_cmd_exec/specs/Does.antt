@@ -18,13 +18,11 @@ use Rattle.fx_cmd_exec.specs.Builds.{Builds, Writes, WhyUnbuilt}
 use Rattle.fx_cmd_exec.specs.Causes.{UnbuiltLeaves}
 use Rattle.fx_cmd_exec.specs.Runs.{ConstantsCome}
 use Rattle.fx_cmd_exec.specs.Reports.{ReportsUnbuilt}
+use Rattle.fx_cmd_exec.specs.Moments.{once_written}
+use Rattle.fx_cmd_exec.specs.Any.{DoesAny, DoneAny}
 
--- Once the image is written, no file is changed any more: what is held then is what is held at the end. Input
--- and output weren't touched before.
-abbrev pub once_written : Streams → Streams → Streams
-once_written before after = record before { held = after.held }
-
--- An image was built and written; what its run came to, and the line and the status of that.
+-- The image of a program of constant output was built and written; what its run came to, and the
+-- line and the status of that.
 pub record Executes (given : ExecGiven) (boxes : List (Option Meaning)) (before after : Streams) (result : ℕ) (err : ErrorStream) : Type 0 where
   pub constants : List ℕ
   pub image : Image
@@ -34,7 +32,8 @@ pub record Executes (given : ExecGiven) (boxes : List (Option Meaning)) (before 
   pub comes : ConstantsCome constants given.run.options boxes (once_written before after) after image came
   pub reports : Reports given.run came result err
 
--- No image was written: why, that neither input nor output was touched, and the line and the status of that.
+-- No image of such a program was written, for a file's fault or want of memory; that neither input
+-- nor output was touched, and the line and the status of that.
 pub record BuildsNone (given : ExecGiven) (before after : Streams) (result : ℕ) (err : ErrorStream) : Type 0 where
   pub why : Unbuilt
   pub why_not : WhyUnbuilt given before.held after.held before.file_faults after.file_faults why
@@ -42,14 +41,18 @@ pub record BuildsNone (given : ExecGiven) (before after : Streams) (result : ℕ
   pub untouched : Untouched before after
   pub reports : ReportsUnbuilt given why result err
 
-abbrev pub DoesExec : ExecGiven → List (Option Meaning) → Streams → Streams → ℕ → ErrorStream → Type 0
+-- A program of constant output has an image of its own, which is proved to be faithful to it; any
+-- other one has the image that `build` writes.
+abbrev pub DoesExec : ExecGiven → List (Option Meaning) → Streams → Streams → ℕ → ErrorStream
+    → Type 0
 DoesExec given boxes before after result err =
-    Executes given boxes before after result err ⊎ BuildsNone given before after result err
+    (Executes given boxes before after result err ⊎ BuildsNone given before after result err)
+    ⊎ DoesAny given boxes before after result err
 
--- The command that ended with status 0: the image's spelling stands under the name, of an image that is
+-- The command that ended with status 0, at a program of constant output: the image's spelling stands under the name, of an image that is
 -- faithful to the source read; it was run as the options say; the output took the source's constants in order
 -- and nothing else; and the line tells the turns that the run makes by that schedule within that budget.
-pub record DoneExec (given : ExecGiven) (boxes : List (Option Meaning)) (before after : Streams) (err : ErrorStream) : Type 0 where
+pub record DoneConstant (given : ExecGiven) (boxes : List (Option Meaning)) (before after : Streams) (err : ErrorStream) : Type 0 where
   pub constants : List ℕ
   pub image : Image
   pub builds : Builds given.config before.held constants image
@@ -59,3 +62,7 @@ pub record DoneExec (given : ExecGiven) (boxes : List (Option Meaning)) (before 
   pub turns_made : turns ≡ turns_within image run.schedule (budget_of given.run.options)
   pub took : Told (Gained constants) before.taken after.taken
   pub line : Told (Gained (line_of image (Exited (pos 0) turns))) err.told err.printed
+
+abbrev pub DoneExec : ExecGiven → List (Option Meaning) → Streams → Streams → ErrorStream → Type 0
+DoneExec given boxes before after err =
+    DoneConstant given boxes before after err ⊎ DoneAny given boxes before after err

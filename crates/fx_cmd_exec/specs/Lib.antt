@@ -4,3 +4,5 @@ pub mod Builds
 pub mod Runs
 pub mod Reports
 pub mod Does
+pub mod Moments
+pub mod Any

@@ -1,10 +1,17 @@
--- How the command ends where no image was written: its status, and what the error stream took.
-use Rattle.std.specs.Prelude.{ℕ}
-use Rattle.fx_cmd_base.specs.Ends.{ErrorStream, EndedOrWanted}
+-- How the command ends where no image of constant output was built: its status, and what the error
+-- stream took.
+use Rattle.std.specs.Prelude.{ℕ, [], ◌∷◌, ◌++◌, codes}
+use Rattle.fx_cmd_base.specs.Ends.{ErrorStream, Ended, EndedOrWanted}
+use Rattle.fx_cmd_base.specs.RefusalWords.{file_fault}
 use Rattle.fx_cmd_base.specs.Words.{ExecGiven}
 use Rattle.fx_cmd_exec.specs.declared.unbuilt.Unbuilt.{Unbuilt}
-use Rattle.fx_cmd_exec.specs.Lines.{unbuilt_status, unbuilt_line}
+use Rattle.fx_cmd_exec.specs.declared.unbuilt.Unbuilt.TheVariants.{Other, FileFault, OutOfMemory}
+use Rattle.fx_cmd_exec.specs.Lines.{name_of}
 
--- The line of the cause and its status; or there was no memory for the line.
+-- The line of a file's fault and its status, or there was no memory for the line; or that of want
+-- of memory. Another program is built.
 abbrev pub ReportsUnbuilt : ExecGiven → Unbuilt → ℕ → ErrorStream → Type 0
-ReportsUnbuilt given why result err = EndedOrWanted (unbuilt_status why) (unbuilt_line given why) result err
+ReportsUnbuilt given (Other form) result err = ⊥
+ReportsUnbuilt given (FileFault which error) result err =
+    EndedOrWanted 4 (file_fault (name_of given which) error ++ 10 ∷ []) result err
+ReportsUnbuilt given OutOfMemory result err = Ended 6 (codes "out of memory\n") result err

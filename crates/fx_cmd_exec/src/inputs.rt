@@ -1,18 +1,18 @@
-//! The files that the building reads: the configuration, and then the source.
+//! The files of a program of constant output: the configuration, and then the source.
 
 ghost use Rattle.std.specs.Prelude.{◌≤◌, IfOk, IfErr, OnOk, MatchResult};
 ghost use Rattle.fx_base.specs.Told.{Told};
 ghost use Rattle.fx_base.specs.Files.{SameFiles};
 ghost use Rattle.fx_cmd_load.specs.Reading.{HasContent, LeavesCount};
-ghost use Rattle.fx_cmd_exec.specs.Causes.{HasProgram, ConfigCause, SourceCause, UnbuiltLeaves, early_document, IsSourceRefused};
+ghost use Rattle.fx_cmd_exec.specs.Causes.{HasProgram, ConfigCause, SourceCause, UnbuiltLeaves, early_document, IsOtherSource};
 ghost use Rattle.fx_early_source.specs.Grammar.{IsProgram};
 
-use crate::unbuilt::{Early, SOURCE, Unbuilt, Which};
+use crate::unbuilt::{Other, SOURCE, Unbuilt, Which};
 use fx_base::{FileError, Files};
 use fx_early_source::SourceError;
 use std::alloc::Global;
 
-/// The configuration that is taken, byte for byte.
+/// The configuration of programs of constant output, byte for byte.
 pub const EARLY_DOCUMENT: &str =
     "mechanism = \"call\"\n[[library]]\nname = \"a\"\nfiles = [\"a.c\"]\n[[compartment]]\nname = \"a\"\nlibraries = [\"a\"]\n";
 
@@ -22,7 +22,7 @@ const CONFIG_LIMIT: u64 = 16_777_216;
 /// The most bytes of a source.
 const SOURCE_LIMIT: u64 = 1_048_576;
 
-/// Reads the configuration, and takes the one document.
+/// Reads the configuration, and takes the one document of programs of constant output.
 pub fn take_config<F: Files>(alloc: Global, files: &mut F, name: &str) -> Result<(), Unbuilt>
     ensures keeps { Told SameFiles (F.held files.old) (F.held files.new) }
     ensures later { F.faults files.old ≤ F.faults files.new }
@@ -35,7 +35,7 @@ pub fn take_config<F: Files>(alloc: Global, files: &mut F, name: &str) -> Result
 {
     match files.read(alloc, name, CONFIG_LIMIT) {
         Ok(text) if text.as_slice() == EARLY_DOCUMENT.as_bytes() => Ok(()),
-        Ok(_) => Err(Unbuilt::Refused(Early::Config)),
+        Ok(_) => Err(Unbuilt::Other(Other::Config)),
         Err(FileError::OutOfMemory) => Err(Unbuilt::OutOfMemory),
         Err(error) => Err(Unbuilt::FileFault {
             which: Which::Config,
@@ -68,11 +68,11 @@ pub fn take_source<F: Files>(alloc: Global, files: &mut F) -> Result<Vec<u8>, Un
 /// The constants of a source.
 fn constants_of(alloc: Global, text: &[u8]) -> Result<Vec<u8>, Unbuilt>
     ensures ok { IfOk result (λ v. IsProgram text.now v.items) }
-    ensures cause { IfErr result (IsSourceRefused text.now) }
+    ensures cause { IfErr result (IsOtherSource text.now) }
 {
     match fx_early_source::read(alloc, text) {
         Ok(constants) => Ok(constants),
-        Err(SourceError::Form) => Err(Unbuilt::Refused(Early::Source(0))),
+        Err(SourceError::Form) => Err(Unbuilt::Other(Other::Source)),
         Err(SourceError::OutOfMemory) => Err(Unbuilt::OutOfMemory),
     }
 }

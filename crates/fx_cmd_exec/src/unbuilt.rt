@@ -1,13 +1,12 @@
-//! Why no image was written, with its status and its line.
+//! Why no image of constant output was built.
 
-ghost use Rattle.std.specs.Prelude.{◌≡◌, IfOk, string_bytes};
+ghost use Rattle.std.specs.Prelude.{◌≡◌};
 ghost use Rattle.fx_cmd_base.specs.Views.{exec_given};
-ghost use Rattle.fx_cmd_exec.specs.Lines.{name_of, unbuilt_status, unbuilt_words, unbuilt_line};
+ghost use Rattle.fx_cmd_exec.specs.Lines.{name_of};
 
 use fx_base::FileError;
-use fx_cmd_base::file_fault;
 use fx_cmd_base::words::ExecWords;
-use std::alloc::{AllocError, Global};
+use std::alloc::AllocError;
 
 /// The name of the source.
 pub const SOURCE: &str = "a.c";
@@ -20,19 +19,20 @@ pub enum Which {
     Image,
 }
 
-/// Why the first form of configuration or source is refused.
+/// Why a program isn't one of constant output.
 #[derive(Clone, Copy, Debug, PartialEq, Eq)]
-pub enum Early {
-    /// The configuration isn't the one document that is taken.
+pub enum Other {
+    /// The configuration isn't the one document of such programs.
     Config,
-    /// The source of this number isn't of the form.
-    Source(u32),
+    /// The source isn't of their form.
+    Source,
 }
 
-/// Why no image was written.
+/// Why no image of constant output was built and written.
 #[derive(Clone, Copy, Debug, PartialEq, Eq)]
 pub enum Unbuilt {
-    Refused(Early),
+    /// The program is another one.
+    Other(Other),
     /// A file couldn't be read or written.
     FileFault { which: Which, error: FileError },
     OutOfMemory,
@@ -50,48 +50,12 @@ impl From<AllocError> for Unbuilt {
 }
 
 /// The name of one of the files of the building.
-fn name_of<'a>(words: &ExecWords<'a>, which: Which) -> &'a str
+pub fn name_of<'a>(words: &ExecWords<'a>, which: Which) -> &'a str
     ensures { result.now ≡ name_of (exec_given words.now) which }
 {
     match which {
         Which::Config => words.config,
         Which::Source => SOURCE,
         Which::Image => words.run.image,
-    }
-}
-
-impl Unbuilt {
-    /// The status that the command ends with.
-    pub fn status(self) -> u8
-        ensures { result ≡ unbuilt_status self }
-    {
-        match self {
-            Unbuilt::Refused(_) => 3,
-            Unbuilt::FileFault { .. } => 4,
-            Unbuilt::OutOfMemory => 6,
-        }
-    }
-
-    /// The words of the line.
-    fn words(self, alloc: Global, words: &ExecWords<'_>) -> Result<String, AllocError>
-        ensures { IfOk result (λ s. string_bytes s ≡ unbuilt_words (exec_given words.now) self) }
-    {
-        match self {
-            Unbuilt::Refused(Early::Config) => String::from_str(alloc, "refused: early Config"),
-            Unbuilt::Refused(Early::Source(number)) => {
-                format!(in alloc; "refused: early Source {number}")
-            }
-            Unbuilt::FileFault { which, error } => file_fault(alloc, name_of(words, which), error),
-            Unbuilt::OutOfMemory => String::from_str(alloc, "out of memory"),
-        }
-    }
-
-    /// The line, ended by a line feed.
-    pub fn line(self, alloc: Global, words: &ExecWords<'_>) -> Result<String, AllocError>
-        ensures { IfOk result (λ s. string_bytes s ≡ unbuilt_line (exec_given words.now) self) }
-    {
-        let mut line = self.words(alloc, words)?;
-        line.push_str("\n")?;
-        Ok(line)
     }
 }
