@@ -1,0 +1,9 @@
+/* The 22nd Fibonacci number, by recursion. */
+int fibonacci(int n) {
+    if (n < 2) return n;
+    return fibonacci(n - 1) + fibonacci(n - 2);
+}
+
+int main() {
+    return fibonacci(22);
+}
