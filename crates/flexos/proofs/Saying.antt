@@ -5,7 +5,10 @@ use Rattle.fx_cmd_base.specs.Streams.{Streams}
 use Rattle.fx_cmd_base.specs.Ends.{ErrorStream}
 use Rattle.fx_cmd_base.specs.Words.{RunGiven, ExecGiven, run_words, exec_words}
 use Rattle.fx_cmd_single.specs.Words.{SingleGiven, single_words}
-use Rattle.flexos.specs.Words.{Said, Exec, Run, Single, Place, Show, Migrate, Usage, MigrateGiven, place_words, show_words, migrate_words, said_or, text_said, image_said, source_said, said_by}
+use Rattle.flexos.specs.Words.{Said, Exec, Run, Single, Place, Build, Show, Migrate, Usage}
+use Rattle.flexos.specs.Words.{BuildGiven, MigrateGiven, place_words, build_words, show_words}
+use Rattle.flexos.specs.Words.{migrate_words, said_or, text_said, image_said, built_said}
+use Rattle.flexos.specs.Words.{source_said, said_by}
 use Rattle.flexos.specs.Table.{Performs, CommandTable, PerformsWell, Done}
 
 -- the command that is given, or what the words say else
@@ -29,18 +32,34 @@ module _ (words : List (List ℕ)) where
       else_said Show said (show_words words) (said_or Migrate (migrate_words words) (text_said words)) show
       (else_said Migrate said (migrate_words words) (text_said words) migrate is)
 
-  pub single_said : (given : SingleGiven) → Some given ≡ single_words words → Single given ≡ source_said words
-  single_said given single = given_said Single given (single_words words) (said_or Place (place_words words) (image_said words)) single
+  pub single_said : (given : SingleGiven) → Some given ≡ single_words words
+      → Single given ≡ source_said words
+  single_said given single =
+      given_said Single given (single_words words) (said_or Place (place_words words)
+      (built_said words)) single
 
-  pub place_said : (config : List ℕ) → None ≡ single_words words → Some config ≡ place_words words → Place config ≡ source_said words
+  pub place_said : (config : List ℕ) → None ≡ single_words words
+      → Some config ≡ place_words words → Place config ≡ source_said words
   place_said config single place =
-      else_said Single (Place config) (single_words words) (said_or Place (place_words words) (image_said words)) single
-      (given_said Place config (place_words words) (image_said words) place)
+      else_said Single (Place config) (single_words words) (said_or Place (place_words words)
+      (built_said words)) single
+      (given_said Place config (place_words words) (built_said words) place)
 
-  pub image_command_said : (said : Said) → None ≡ single_words words → None ≡ place_words words → said ≡ image_said words → said ≡ source_said words
-  image_command_said said single place is =
-      else_said Single said (single_words words) (said_or Place (place_words words) (image_said words)) single
-      (else_said Place said (place_words words) (image_said words) place is)
+  pub built_command_said : (said : Said) → None ≡ single_words words → None ≡ place_words words
+      → said ≡ built_said words → said ≡ source_said words
+  built_command_said said single place is =
+      else_said Single said (single_words words) (said_or Place (place_words words)
+      (built_said words)) single
+      (else_said Place said (place_words words) (built_said words) place is)
+
+  pub build_said : (given : BuildGiven) → Some given ≡ build_words words
+      → Build given ≡ built_said words
+  build_said given build = given_said Build given (build_words words) (image_said words) build
+
+  pub image_command_said : (said : Said) → None ≡ build_words words → said ≡ image_said words
+      → said ≡ built_said words
+  image_command_said said build is =
+      else_said Build said (build_words words) (image_said words) build is
 
   pub exec_said : (given : ExecGiven) → Some given ≡ exec_words words → Exec given ≡ said_by words
   exec_said given exec = given_said Exec given (exec_words words) (said_or Run (run_words words) (source_said words)) exec

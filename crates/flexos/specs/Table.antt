@@ -3,12 +3,14 @@ use Rattle.std.specs.Prelude.{◌≡◌, ◌≢◌, ℕ, List, Option, codes}
 use Rattle.fx_device.specs.Rules.{Meaning}
 use Rattle.fx_cmd_base.specs.Streams.{Streams}
 use Rattle.fx_cmd_base.specs.Ends.{ErrorStream, Ended}
+use Rattle.fx_cmd_build.specs.Builds.{DoesBuild, DoneBuild}
 use Rattle.fx_cmd_exec.specs.Does.{DoesExec, DoneExec}
 use Rattle.fx_cmd_run.specs.Reports.{Does}
 use Rattle.fx_cmd_single.specs.Reports.{DoesSingle}
 use Rattle.fx_cmd_show.specs.Shows.{DoesShow, DoneShow}
 use Rattle.fx_cmd_migrate.specs.Migrates.{DoesMigrate, DoneMigrate}
-use Rattle.flexos.specs.Words.{Said, Exec, Run, Single, Place, Show, Migrate, Help, Version, Usage, said_by}
+use Rattle.flexos.specs.Words.{Said, Exec, Run, Single, Place, Build, Show, Migrate, Help, Version}
+use Rattle.flexos.specs.Words.{Usage, said_by}
 use Rattle.flexos.specs.Places.{DoesPlace, DonePlace}
 use Rattle.flexos.specs.Runs.{DoneRun}
 use Rattle.flexos.specs.Singles.{DoneSingle}
@@ -25,6 +27,8 @@ Performs (Single given) boxes before after err result =
     DoesSingle given boxes before after result err × (result ≢ 2)
 Performs (Place config) boxes before after err result =
     DoesPlace config before after result err × (result ≢ 2)
+Performs (Build given) boxes before after err result =
+    DoesBuild given.config given.image before after result err × (result ≢ 2)
 Performs (Show image) boxes before after err result =
     DoesShow image before after result err × (result ≢ 2)
 Performs (Migrate given) boxes before after err result =
@@ -44,13 +48,16 @@ CommandTable words boxes before after err result =
 
 -- A command that ended well. `exec` wrote an image that is faithful to the source read, and the
 -- output took the source's constants; the run of the image read ended by Exit; the run of the
--- program in one compartment came to an end by Exit; `place` put the placement; `show` put the
--- image's text; `migrate` wrote the image in today's version; the others put their text.
+-- program in one compartment came to an end by Exit; `place` put the placement; `build` wrote the
+-- image of the configuration's sources; `show` put the image's text; `migrate` wrote the image in
+-- today's version; the others put their text.
 abbrev pub PerformsWell : Said → List (Option Meaning) → Streams → Streams → ErrorStream → Type 0
 PerformsWell (Exec given) boxes before after err = DoneExec given boxes before after err
 PerformsWell (Run given) boxes before after err = DoneRun given boxes before after err
 PerformsWell (Single given) boxes before after err = DoneSingle given boxes before after err
 PerformsWell (Place config) boxes before after err = DonePlace config before after err
+PerformsWell (Build given) boxes before after err =
+    DoneBuild given.config given.image before after err
 PerformsWell (Show image) boxes before after err = DoneShow image before after err
 PerformsWell (Migrate given) boxes before after err =
     DoneMigrate given.old given.new before after err

@@ -18,11 +18,12 @@ help_commands =
     ++ (codes "run IMAGE [OPTIONS]        runs the image                                0 1 3-12\n"
     ++ (codes "single CONF [--steps N]    runs CONF's sources, all in one compartment   0 3-12\n"
     ++ (codes "place CONF                 writes where CONF's objects lie               0 3-6\n"
+    ++ (codes "build CONF IMAGE           writes the image of CONF's sources            0 3-6\n"
     ++ (codes "show IMAGE                 writes what the image holds                   0 3-6\n"
     ++ (codes "migrate OLD NEW            writes the image OLD under NEW, in version 2  0 3-6\n"
     ++ (codes "help, --help, -h           writes this text                              0 5\n"
     ++ (codes "--version                  writes the version                            0 5\n"
-    ++ 10 ∷ []))))))))
+    ++ 10 ∷ [])))))))))
 
 -- the options of a run
 abbrev pub help_options : List ℕ

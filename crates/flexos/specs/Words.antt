@@ -1,16 +1,23 @@
 -- What the words say.
-use Rattle.std.specs.Prelude.{ℕ, Bool, ◌&&◌, ◌||◌, if◌then◌else◌, List, [], ◌∷◌, Option, None, Some, codes, bytes_eq}
+use Rattle.std.specs.Prelude.{ℕ, Bool, ◌&&◌, ◌||◌, if◌then◌else◌, List, [], ◌∷◌, Option, None}
+use Rattle.std.specs.Prelude.{Some, codes, bytes_eq}
 use Rattle.fx_cmd_base.specs.Words.{RunGiven, ExecGiven, is_file_name, run_words, exec_words}
 use Rattle.fx_cmd_base.specs.Views.{run_given, exec_given}
 use Rattle.fx_cmd_single.specs.Words.{SingleGiven, single_words, single_given}
 use Rattle.flexos.specs.declared.command.Command.{Command}
 use Rattle.flexos.specs.declared.command.Command.TheVariants as commands
 use Rattle.flexos.specs.declared.command.Migrate.{Migrate as Migrating}
+use Rattle.flexos.specs.declared.command.Build.{Build as Building}
 
 -- The names of `migrate OLD NEW`.
 pub record MigrateGiven : Type 0 where
   pub old : List ℕ
   pub new : List ℕ
+
+-- The names of `build CONF IMAGE`.
+pub record BuildGiven : Type 0 where
+  pub config : List ℕ
+  pub image : List ℕ
 
 -- A command with what it is given, or none, which is usage.
 pub data Said : Type 0 where
@@ -18,6 +25,7 @@ pub data Said : Type 0 where
   Run : (given : RunGiven) → Said
   Single : (given : SingleGiven) → Said
   Place : (config : List ℕ) → Said
+  Build : (given : BuildGiven) → Said
   Show : (image : List ℕ) → Said
   Migrate : (given : MigrateGiven) → Said
   Help : Said
@@ -49,6 +57,16 @@ migrate_words (word ∷ old ∷ new ∷ []) =
     then Some (record { old = old; new = new }) else None
 migrate_words (word ∷ old ∷ new ∷ next ∷ rest) = None
 
+-- The names of `build CONF IMAGE`.
+abbrev pub build_words : List (List ℕ) → Option BuildGiven
+build_words [] = None
+build_words (word ∷ []) = None
+build_words (word ∷ config ∷ []) = None
+build_words (word ∷ config ∷ image ∷ []) =
+    if bytes_eq word (codes "build") && (is_file_name config && is_file_name image)
+    then Some (record { config = config; image = image }) else None
+build_words (word ∷ config ∷ image ∷ next ∷ rest) = None
+
 -- The one word of a command that writes a text.
 abbrev pub is_help : List ℕ → Bool
 is_help word =
@@ -70,9 +88,12 @@ abbrev pub image_said : List (List ℕ) → Said
 image_said words =
     said_or Show (show_words words) (said_or Migrate (migrate_words words) (text_said words))
 
+abbrev pub built_said : List (List ℕ) → Said
+built_said words = said_or Build (build_words words) (image_said words)
+
 abbrev pub source_said : List (List ℕ) → Said
 source_said words =
-    said_or Single (single_words words) (said_or Place (place_words words) (image_said words))
+    said_or Single (single_words words) (said_or Place (place_words words) (built_said words))
 
 abbrev pub said_by : List (List ℕ) → Said
 said_by words =
@@ -81,6 +102,9 @@ said_by words =
 abbrev pub migrate_given : Migrating → MigrateGiven
 migrate_given migrate = record { old = migrate.old.now; new = migrate.new.now }
 
+abbrev pub build_given : Building → BuildGiven
+build_given build = record { config = build.config.now; image = build.image.now }
+
 -- What a command that was read says.
 abbrev pub said_of : Option Command → Said
 said_of None = Usage
@@ -88,6 +112,7 @@ said_of (Some (commands.Exec exec)) = Exec (exec_given exec)
 said_of (Some (commands.Run run)) = Run (run_given run)
 said_of (Some (commands.Single single)) = Single (single_given single)
 said_of (Some (commands.Place place)) = Place place.config.now
+said_of (Some (commands.Build build)) = Build (build_given build)
 said_of (Some (commands.Show show)) = Show show.image.now
 said_of (Some (commands.Migrate migrate)) = Migrate (migrate_given migrate)
 said_of (Some commands.Help) = Help

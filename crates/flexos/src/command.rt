@@ -1,7 +1,9 @@
 //! The words of a command.
 
 ghost use Rattle.std.specs.Prelude.{◌≡◌, map, option_map, string_bytes};
-ghost use Rattle.flexos.specs.Words.{named_words, migrate_words, migrate_given, is_help, text_said, image_said, source_said, said_by, said_of};
+ghost use Rattle.flexos.specs.Words.{named_words, migrate_words, migrate_given, build_words};
+ghost use Rattle.flexos.specs.Words.{build_given, is_help, text_said, image_said, built_said};
+ghost use Rattle.flexos.specs.Words.{source_said, said_by, said_of};
 
 use fx_cmd_base::words::{ExecWords, RunWords, is_file_name};
 use fx_cmd_single::words::{SingleWords, single_of};
@@ -10,6 +12,13 @@ use fx_cmd_single::words::{SingleWords, single_of};
 #[derive(Clone, Copy, Debug)]
 pub struct Place<'a> {
     pub config: &'a str,
+}
+
+/// The command `build CONF IMAGE`: writes the image of the program of CONF's sources.
+#[derive(Clone, Copy, Debug)]
+pub struct Build<'a> {
+    pub config: &'a str,
+    pub image: &'a str,
 }
 
 /// The command `show IMAGE`: puts the text of the image.
@@ -32,6 +41,7 @@ pub enum Command<'a> {
     Run(RunWords<'a>),
     Single(SingleWords<'a>),
     Place(Place<'a>),
+    Build(Build<'a>),
     Show(Show<'a>),
     Migrate(Migrate<'a>),
     Help,
@@ -51,6 +61,30 @@ fn named<'a>(command: &str, words: &'a [String]) -> Option<&'a str>
                 return None;
             }
             Some(name.as_str())
+        }
+        _ => None,
+    }
+}
+
+/// The command `build` that the words are.
+fn build_of(words: &[String]) -> Option<Build<'_>>
+    ensures { option_map build_given result ≡ build_words (map string_bytes words.now) }
+{
+    match words {
+        [] => None,
+        [_] => None,
+        [_, _] => None,
+        [word, config, image] => {
+            if word.as_str() != "build"
+                || !is_file_name(config.as_str())
+                || !is_file_name(image.as_str())
+            {
+                return None;
+            }
+            Some(Build {
+                config: config.as_str(),
+                image: image.as_str(),
+            })
         }
         _ => None,
     }
@@ -120,8 +154,19 @@ fn image_command(words: &[String]) -> Option<Command<'_>>
     }
 }
 
-/// The command on sources that builds no image, or a later one, that the words are.
-#[tactic(auto, using(crate::proofs::Saying::single_said, crate::proofs::Saying::place_said, crate::proofs::Saying::image_command_said))]
+/// The command `build`, or a later one, that the words are.
+#[tactic(auto, using(crate::proofs::Saying::build_said, crate::proofs::Saying::image_command_said))]
+fn built_command(words: &[String]) -> Option<Command<'_>>
+    ensures { said_of result ≡ built_said (map string_bytes words.now) }
+{
+    match build_of(words) {
+        Some(build) => Some(Command::Build(build)),
+        None => image_command(words),
+    }
+}
+
+/// The command on sources, or a later one, that the words are.
+#[tactic(auto, using(crate::proofs::Saying::single_said, crate::proofs::Saying::place_said, crate::proofs::Saying::built_command_said))]
 fn source_command(words: &[String]) -> Option<Command<'_>>
     ensures { said_of result ≡ source_said (map string_bytes words.now) }
 {
@@ -129,7 +174,7 @@ fn source_command(words: &[String]) -> Option<Command<'_>>
         Some(single) => Some(Command::Single(single)),
         None => match named("place", words) {
             Some(config) => Some(Command::Place(Place { config })),
-            None => image_command(words),
+            None => built_command(words),
         },
     }
 }

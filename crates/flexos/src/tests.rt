@@ -266,6 +266,57 @@ fn a_program_runs_in_one_compartment(rt: HostRuntime) -> Result<(), Fail> {
 }
 
 #[test]
+fn images_are_built(rt: HostRuntime) -> Result<(), Fail> {
+    let alloc = rt.alloc();
+    let files = [
+        ("conf.toml", EARLY_DOCUMENT.as_bytes()),
+        ("a.c", b"long main() { return 6 + 1; }".as_slice()),
+    ];
+    let left = command(alloc, "build conf.toml out.img", &files, 0, 10)?;
+    assert_eq!(rt; left.status, 0);
+    assert!(rt; left.out.bytes().is_empty());
+    assert!(rt; left.err.bytes().is_empty());
+    let left = over(alloc, "show out.img", left.files, 4000)?;
+    assert_eq!(rt; left.status, 0);
+    let head = b"FlexOS image, version 2\nmechanism call, ";
+    assert!(rt; left.out.bytes().starts_with(head));
+    let left = over(alloc, "run out.img", left.files, 10)?;
+    assert_eq!(rt; left.status, 0);
+    assert!(rt; left.err.bytes().starts_with(b"exit 7 in "));
+    Ok(())
+}
+
+#[test]
+fn refused_builds_write_no_file(rt: HostRuntime) -> Result<(), Fail> {
+    let alloc = rt.alloc();
+    let conf = ("conf.toml", EARLY_DOCUMENT.as_bytes());
+    let full = ("conf.toml", TWO_COMPARTMENTS);
+    let short = ("conf.toml", b"mechanism = \"full\"\n".as_slice());
+    let good = ("a.c", b"long main() { return 7; }".as_slice());
+    let bad = ("a.c", b"long main() { return x; }".as_slice());
+    let text = ("a.c", b"long main( {".as_slice());
+    let cases: [(&[(&str, &[u8])], u64, u8, &str); 9] = [
+        (&[good], 0, 4, "no file: conf.toml\n"),
+        (&[short, good], 0, 3, "refused: config Missing\n"),
+        // The mechanism is refused before a source is read.
+        (&[full], 0, 3, "refused: early Config\n"),
+        (&[conf], 0, 4, "no file: a.c\n"),
+        (&[conf, text], 0, 3, "refused: parse file 0 Syntax 0\n"),
+        (&[conf, bad], 0, 3, "refused: types UnknownName 0\n"),
+        (&[conf, good], 1, 4, "file fault: conf.toml\n"),
+        (&[conf, good], 2, 4, "file fault: a.c\n"),
+        (&[conf, good], 3, 4, "file fault: out.img\n"),
+    ];
+    for (files, failing, status, line) in cases {
+        let left = command(alloc, "build conf.toml out.img", files, failing, 10)?;
+        assert_eq!(rt; left.status, status, "{line}");
+        assert_eq!(rt; left.err.bytes(), line.as_bytes());
+        assert!(rt; left.files.get("out.img").is_none(), "{line}");
+    }
+    Ok(())
+}
+
+#[test]
 fn images_are_shown_and_migrated(rt: HostRuntime) -> Result<(), Fail> {
     let alloc = rt.alloc();
     let Left { files, .. } = exec(alloc, b"void main() { }")?;

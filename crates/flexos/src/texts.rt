@@ -24,6 +24,7 @@ pub fn help() -> &'static str
      run IMAGE [OPTIONS]        runs the image                                0 1 3-12\n\
      single CONF [--steps N]    runs CONF's sources, all in one compartment   0 3-12\n\
      place CONF                 writes where CONF's objects lie               0 3-6\n\
+     build CONF IMAGE           writes the image of CONF's sources            0 3-6\n\
      show IMAGE                 writes what the image holds                   0 3-6\n\
      migrate OLD NEW            writes the image OLD under NEW, in version 2  0 3-6\n\
      help, --help, -h           writes this text                              0 5\n\

@@ -10,6 +10,7 @@ use crate::command::{Command, command_of};
 use crate::texts::{help, put_text, version};
 use fx_base::{Files, Sink, Source};
 use fx_cmd_base::conclude;
+use fx_cmd_build::build_command;
 use fx_cmd_exec::report::exec_command;
 use fx_cmd_migrate::migrate_command;
 use fx_cmd_place::place_command;
@@ -33,6 +34,10 @@ const USAGE_LINE: &str = "usage\n";
 /// in place of 50,000,000), `--schedule FILE` (turn i is the vCPU's that byte i of FILE names, and
 /// then that of the number i less their count) and `--unplug D N` (device D is unplugged as soon as
 /// N operations of it were made). Both files have at most 16,777,216 bytes.
+///
+/// `build CONF IMAGE` reads CONF and its sources, checks the program, and writes its image under
+/// IMAGE. The mechanism must be plain calls. The limits of the files are those of `exec`, and a
+/// refused build writes no file.
 ///
 /// `place CONF` reads CONF and its sources, checks the program, grants and places it, and puts a
 /// line for each object of its image to `out`: its address, key, size and name, in order of
@@ -131,6 +136,7 @@ pub fn flexos<F: Files, I: Source, O: Sink, E: Sink>(
         Command::Run(given) => run_command(alloc, &given, files, input, out, err, devices),
         Command::Single(given) => single_command(alloc, &given, files, input, out, err, devices),
         Command::Place(place) => place_command(alloc, place.config, files, out, err),
+        Command::Build(given) => build_command(alloc, given.config, given.image, files, err),
         Command::Show(show) => show_command(alloc, show.image, files, out, err),
         Command::Migrate(given) => migrate_command(alloc, given.old, given.new, files, err),
         Command::Help => put_text(help(), out, err),

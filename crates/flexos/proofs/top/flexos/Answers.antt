@@ -2,7 +2,9 @@ use Rattle.std.proofs.Common.{Some, ℕ, List, map, string_bytes, ap, subst, sym
 use Rattle.fx_cmd_base.specs.Ends.{ErrorStream, Ended}
 use Rattle.fx_cmd_base.specs.Views.{run_given, exec_given}
 use Rattle.fx_cmd_single.specs.Words.{single_given}
-use Rattle.flexos.specs.Words.{Exec, Run, Single, Place, Show, Migrate, Help, Version, Usage, migrate_given, said_of}
+use Rattle.fx_cmd_build.proofs.Ways.{done, no_usage}
+use Rattle.flexos.specs.Words.{Exec, Run, Single, Place, Build, Show, Migrate, Help, Version, Usage}
+use Rattle.flexos.specs.Words.{build_given, migrate_given, said_of}
 use Rattle.flexos.specs.Texts.{help_text, version_text, PutsText}
 use Rattle.flexos.specs.declared.command.Command.{Command}
 use Rattle.flexos.proofs.Running.{done_run, run_is_no_usage}
@@ -56,6 +58,29 @@ pub returns-in-Single-clause-done : goal.returns-in-Single-clause-done
 returns-in-Single-clause-done g c = λ none.
     done_at (Single (single_given c.in-Single.given)) (map string_bytes c.args.words.now) _ _ _ _ c.single_command.result (ap (λ (x : Command). said_of (Some x)) (sym c.in-Single.is) ∙ c.in-Some.ensures)
     (done_single (single_given c.in-Single.given) _ _ _ c.single_command.result _ c.single_command.ensures none)
+
+pub returns-in-Build-clause-table : goal.returns-in-Build-clause-table
+returns-in-Build-clause-table g c =
+    let given = build_given c.in-Build.given in
+    let does = c.build_command.ensures.does in
+    table_at (Build given) (map string_bytes c.args.words.now) _ _ _ _ _
+    (ap (λ (x : Command). said_of (Some x)) (sym c.in-Build.is) ∙ c.in-Some.ensures) (
+      record { does = does; untouched = record { input = refl; input_faults = refl; output = refl; output_faults = refl } },
+      no_usage given.config given.image (g.F.Files.held c.args.files.now)
+          (g.F.Files.held c.build_command.new.files) (g.F.Files.faults c.args.files.now)
+          (g.F.Files.faults c.build_command.new.files) c.build_command.result _ does,
+    )
+
+pub returns-in-Build-clause-done : goal.returns-in-Build-clause-done
+returns-in-Build-clause-done g c = λ none.
+    let given = build_given c.in-Build.given in
+    let well = done given.config given.image (g.F.Files.held c.args.files.now)
+    (g.F.Files.held c.build_command.new.files) (g.F.Files.faults c.args.files.now)
+    (g.F.Files.faults c.build_command.new.files) c.build_command.result _
+    c.build_command.ensures.does none in
+    done_at (Build given) (map string_bytes c.args.words.now) _ _ _ _ c.build_command.result
+    (ap (λ (x : Command). said_of (Some x)) (sym c.in-Build.is) ∙ c.in-Some.ensures)
+    (record { made = well.made; builds = well.builds; untouched = record { input = refl; input_faults = refl; output = refl; output_faults = refl }; quiet = well.quiet })
 
 pub returns-in-Show-clause-table : goal.returns-in-Show-clause-table
 returns-in-Show-clause-table g c =
