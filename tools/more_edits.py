@@ -2,8 +2,9 @@
 """Tries the edits in crates/NAME/more-edits, each of which the prover must refuse.
 
 The gate tries those in must-fail/ alone, so that it ends in an hour and a half on four
-processors. Usage: more_edits.py NAME [NAME ..]. The edits stand in must-fail/ while they
-are tried, by `rt must-fail NAME`, and are taken out behind it.
+processors. Usage: more_edits.py NAME [NAME ..], where NAME/EDIT tries that edit alone. The
+edits stand in must-fail/ while they are tried, by `rt must-fail NAME`, and are taken out
+behind it.
 """
 import pathlib
 import shutil
@@ -13,15 +14,18 @@ import sys
 ROOT = pathlib.Path(__file__).resolve().parent.parent
 
 
-def tries(name):
-    """Whether all edits of the crate are refused, those of the gate included."""
+def tries(words):
+    """Whether all edits of the crate are refused, those of the gate included, or one alone."""
+    name, _, chosen = words.partition("/")
     crate = ROOT / "crates" / name
-    edits = sorted((crate / "more-edits").glob("*.edit"))
+    edits = sorted((crate / "more-edits").glob(f"{chosen or '*'}.edit"))
     if not edits:
-        print(f"{name}: it has no more edits than the gate tries")
-        return True
-    folder = crate / "must-fail"
+        print(f"{words}: it has no more edits than the gate tries")
+        return not chosen
+    folder, aside = crate / "must-fail", crate / "must-fail-aside"
     was_there = folder.is_dir()
+    if chosen and was_there:
+        folder.rename(aside)
     folder.mkdir(exist_ok=True)
     taken = []
     try:
@@ -34,8 +38,10 @@ def tries(name):
     finally:
         for copy in taken:
             pathlib.Path(copy).unlink()
-        if not was_there:
+        if chosen or not was_there:
             folder.rmdir()
+        if aside.is_dir():
+            aside.rename(folder)
 
 
 def main():
