@@ -4,6 +4,7 @@ use Rattle.fx_base.specs.Faults.{Rose}
 use Rattle.fx_base.specs.Told.{Told}
 use Rattle.fx_base.specs.Files.{Held, SameFiles, SameElsewhere}
 use Rattle.fx_image.specs.declared.forms.Image.{Image}
+use Rattle.fx_image_migration_law.proofs.Alike.{keeps}
 use Rattle.fx_run_core.proofs.Telling.{told_join}
 use Rattle.fx_cmd_base.specs.Streams.{TookNothing}
 use Rattle.fx_cmd_base.specs.Ends.{ErrorStream, Ended}
@@ -12,7 +13,7 @@ use Rattle.fx_cmd_run.specs.Lines.{unbegun_status}
 use Rattle.fx_cmd_run.specs.declared.load.Unbegun.{Unbegun}
 use Rattle.fx_cmd_run.specs.declared.load.Unbegun.TheVariants as unbegun
 use Rattle.fx_cmd_migrate.specs.Failures.{unmigrated_status}
-use Rattle.fx_cmd_migrate.specs.Migrates.{Writes, WritingCause, MigratesImage, Comes, Reports}
+use Rattle.fx_cmd_migrate.specs.Migrates.{current, RunsAsItIs, Writes, WritingCause, MigratesImage, Comes, Reports}
 use Rattle.fx_cmd_migrate.specs.declared.failure.Unmigrated.{Unmigrated}
 use Rattle.fx_cmd_migrate.specs.declared.failure.Unmigrated.TheVariants.{NoImage, WriteFailed, OutOfMemory}
 
@@ -33,7 +34,9 @@ rose_after before middle now later rose = omega (arith, later, rose)
 pub came_of : (old new : List ℕ) (held mid after : Option Held) (before middle now : ℕ) (image : Image) (came : Result (Unit {0}) Unmigrated) → Told SameFiles held mid → before ≤ middle → HasImage held old image
     → OnOk came (Writes new image mid after) → Told (SameElsewhere new) mid after → IfErr came (WritingCause middle now) → Comes old new held after before now came
 came_of old new held mid after before middle now image (Ok x) same later read written others cause =
-    (image, read, writes_after held mid after new image same written, others_after held mid after new same others)
+    let runs : RunsAsItIs image = keeps image (current image) refl in
+    let wrote : Writes new image held after = writes_after held mid after new image same written in
+    (image, read, wrote, runs, others_after held mid after new same others)
 came_of old new held mid after before middle now image (Err (NoImage why)) same later read written others cause = absurd cause
 came_of old new held mid after before middle now image (Err WriteFailed) same later read written others cause =
     (image, read, rose_after before middle now later cause, others_after held mid after new same others)

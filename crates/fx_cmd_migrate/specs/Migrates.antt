@@ -5,6 +5,7 @@ use Rattle.fx_base.specs.Told.{Told}
 use Rattle.fx_base.specs.Files.{Held, SameFiles, SameElsewhere}
 use Rattle.fx_image.specs.ImageBytes.{ImageBytes}
 use Rattle.fx_image.specs.declared.forms.Image.{Image}
+use Rattle.fx_image_migration_law.specs.Migration.{RunsAlike}
 use Rattle.fx_cmd_base.specs.Streams.{Streams, Untouched, TookNothing}
 use Rattle.fx_cmd_base.specs.Ends.{ErrorStream, EndedOrWanted}
 use Rattle.fx_cmd_run.specs.Causes.{HasImage, ImageCause, UnbegunLeaves}
@@ -16,6 +17,10 @@ use Rattle.fx_cmd_migrate.specs.declared.failure.Unmigrated.TheVariants.{OutOfMe
 -- the image in the version that is written today, with nothing else changed
 abbrev pub current : Image → Image
 current image = record image { version = 2 }
+
+-- In that version it runs as it is, by all answers and schedules.
+abbrev pub RunsAsItIs : Image → Type 0
+RunsAsItIs image = (answers schedule : List ℕ) → RunsAlike (current image) image answers schedule
 
 -- The bytes of the image in that version, which is an image again, stand under the name.
 abbrev pub Writes : List ℕ → Image → Option Held → Option Held → Type 0
@@ -30,10 +35,11 @@ WritingCause before now (NoImage why) = ⊥
 WritingCause before now WriteFailed = Rose before now
 WritingCause before now OutOfMemory = Unit {0}
 
--- the new file holds the image of the old one in today's version, and every other file is as it was
+-- The new file holds the image of the old one in today's version, which runs as the old one, and
+-- every other file is as it was.
 abbrev pub MigratesImage : (old new : List ℕ) → Option Held → Option Held → Type 0
 MigratesImage old new held after =
-    (image : Image) × HasImage held old image × Writes new image held after
+    (image : Image) × HasImage held old image × Writes new image held after × RunsAsItIs image
     × Told (SameElsewhere new) held after
 
 -- Why it does not: there is no image under the old name, and no file was written; or there is one,

@@ -63,8 +63,8 @@ pub fn migrate_command<F: Files, E: Sink>(
     files: &mut F,
     err: &mut E,
 ) -> u8
-    // Status 0: the new file holds the image of the old one in version 2, every other file is as it
-    // was, and the error stream took nothing.
+    // Status 0: the new file holds the image of the old one in version 2, which runs as the old one,
+    // every other file is as it was, and the error stream took nothing.
     ensures done { result ≡ 0 →
         MigratesImage old.now new.now (F.held files.old) (F.held files.new)
         × Told TookNothing (E.taken err.old) (E.taken err.new) }
