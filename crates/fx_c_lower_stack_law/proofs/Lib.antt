@@ -1,0 +1,9 @@
+pub mod Stands
+pub mod Pieces
+pub mod Ops
+pub mod Needs
+pub mod Expressions
+pub mod Statements
+pub mod Scans
+pub mod Arity
+pub mod Law
